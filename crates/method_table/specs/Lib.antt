@@ -1,0 +1,5 @@
+pub mod Horizon
+pub mod Kind
+pub mod Method
+pub mod Row
+pub mod Table

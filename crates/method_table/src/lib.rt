@@ -1,0 +1,18 @@
+// The seven methods of the prayer times, and the seven problems of a day that they pose.
+// Contract: `problems` gives the rows of the manual's table for a day, exactly.
+#![tactic(auto)]
+
+mod method;
+mod problem;
+mod rank;
+mod sunset;
+mod table;
+
+pub use method::{Asr, Method, asr_word, method_of, method_word, method_words_are_read};
+pub use problem::{Column, Kind, Problem, Side};
+pub use rank::{column_word, minute_of};
+pub use sunset::horizon;
+pub use table::{noon_of, problems};
+
+#[cfg(test)]
+mod tests;
