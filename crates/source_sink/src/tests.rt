@@ -1,0 +1,77 @@
+use super::*;
+use std::io;
+use std::io::{ErrorKind, Read, Write};
+use std::test::Fail;
+
+/// A device that fails at each call.
+#[derive(Drop)]
+struct Broken;
+
+impl Read for Broken {
+    fn read(&mut self, _buffer: &mut [u8]) -> io::Result<usize> {
+        Err(io::Error::from(ErrorKind::Other))
+    }
+}
+
+impl Write for Broken {
+    fn write(&mut self, _piece: &[u8]) -> io::Result<usize> {
+        Err(io::Error::from(ErrorKind::Other))
+    }
+
+    fn flush(&mut self) -> io::Result<()> {
+        Ok(())
+    }
+}
+
+#[test]
+fn std_readers_are_sources(rt: HostRuntime) {
+    let mut buffer = [0u8; 2];
+    let mut source = StdSource::new(b"abc".as_slice());
+    assert_eq!(rt; source.read(&mut buffer), Got::Bytes(2));
+    assert_eq!(rt; buffer, *b"ab");
+    assert_eq!(rt; source.read(&mut buffer), Got::Bytes(1));
+    assert_eq!(rt; source.read(&mut buffer), Got::End);
+    assert_eq!(rt; StdSource::new(Broken).read(&mut buffer), Got::Failed);
+}
+
+#[test]
+fn std_writers_are_sinks(rt: HostRuntime) {
+    let mut written = Vec::new(rt.alloc());
+    let mut sink = StdSink::new(&mut written);
+    assert_eq!(rt; sink.write(b"abc"), Put::Took(3));
+    assert_eq!(rt; written.as_slice(), b"abc".as_slice());
+    assert_eq!(rt; StdSink::new(Broken).write(b"abc"), Put::Failed);
+}
+
+#[test]
+fn calls_of_the_plan_fail(rt: HostRuntime) -> Result<(), Fail> {
+    let bytes = b"abcd".to_vec(rt.alloc())?;
+    let failing = vec![in rt.alloc(); 2]?;
+    let mut source = MemSource::new(bytes, failing, 3);
+    let first = read_all(rt.alloc(), &mut source, 4);
+    assert_eq!(rt; first.err(), Some(ReadFault::Failed));
+    assert_eq!(rt; source.faults(), 1);
+    let rest = read_all(rt.alloc(), &mut source, 4)?;
+    assert_eq!(rt; rest.as_slice(), b"d".as_slice());
+
+    let failing = vec![in rt.alloc(); 1]?;
+    let mut sink = MemSink::new(rt.alloc(), 5, failing, 2)?;
+    assert_eq!(rt; write_all(&mut sink, b"abc"), Err(WriteFault));
+    assert_eq!(rt; write_all(&mut sink, b"abc"), Ok(()));
+    assert_eq!(rt; write_all(&mut sink, b"abc"), Err(WriteFault));
+    assert_eq!(rt; sink.faults(), 2);
+    assert_eq!(rt; sink.bytes(), b"abcab".as_slice());
+    Ok(())
+}
+
+#[test]
+fn sure_ones_never_fail(rt: HostRuntime) -> Result<(), Fail> {
+    let mut source = SureSource::new(b"abc".to_vec(rt.alloc())?);
+    let too_long = read_all(rt.alloc(), &mut source, 2);
+    assert_eq!(rt; too_long.err(), Some(ReadFault::TooLong));
+    let mut sink = SureSink::new(rt.alloc(), 4)?;
+    assert_eq!(rt; write_all(&mut sink, b"abc"), Ok(()));
+    assert_eq!(rt; write_all(&mut sink, b"def"), Ok(()));
+    assert_eq!(rt; sink.bytes(), b"abcd".as_slice());
+    Ok(())
+}
