@@ -1,0 +1,11 @@
+pub mod Whole
+pub mod FractionLaws
+pub mod GridLaws
+pub mod Bits
+pub mod Sizes
+pub mod Products
+pub mod RootLaws
+pub mod Roots
+pub mod EnclosureLaws
+pub mod Inclusion
+pub mod Widths

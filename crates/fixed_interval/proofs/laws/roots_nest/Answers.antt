@@ -1,0 +1,5 @@
+use Rattle.fixed_interval.proofs.EnclosureLaws.{root_nested}
+use Rattle.fixed_interval.proofs.laws.roots_nest.Goals as goal
+
+pub returns : goal.returns
+returns c = root_nested

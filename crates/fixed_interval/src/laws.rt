@@ -1,0 +1,42 @@
+// The laws of the operations. Each is the contract of a function that does nothing.
+ghost use Rattle.fixed_interval.specs.Laws.{LiesInIsAnOrder, RoundsToTheLeast, KeepsLiesIn, GridKeepsLiesIn, GridHoldsExact, KeepsOrder, RootNests, BoundsEachResult};
+
+/// To lie in is an order, and what lies in an enclosure with a sign has that sign and not the other.
+pub fn lies_in_is_an_order()
+    ensures { LiesInIsAnOrder }
+{}
+
+/// Rounding outward gives the least enclosure on the grid.
+pub fn rounding_gives_the_least()
+    ensures { RoundsToTheLeast }
+{}
+
+/// Exact arguments that lie in others give a result that lies in theirs.
+pub fn exact_operations_are_monotone()
+    ensures { KeepsLiesIn }
+{}
+
+/// Arguments on the grid that lie in others give a result that lies in theirs.
+pub fn grid_operations_are_monotone()
+    ensures { GridKeepsLiesIn }
+{}
+
+/// The grid form holds the exact result of arguments that lie in its own.
+pub fn grid_holds_exact()
+    ensures { GridHoldsExact }
+{}
+
+/// Ends in order give a result whose ends are in order.
+pub fn results_are_ordered()
+    ensures { KeepsOrder }
+{}
+
+/// A root at a greater depth lies in the one at a lesser.
+pub fn roots_nest()
+    ensures { RootNests }
+{}
+
+/// How far each result reaches and how wide it is, from the same of the arguments.
+pub fn results_are_bounded()
+    ensures { BoundsEachResult }
+{}

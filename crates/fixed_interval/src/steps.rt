@@ -1,0 +1,105 @@
+// Steps on whole numbers. Each does one operation, so that its clause is exact and the operations above only join them.
+ghost use Rattle.std.specs.Prelude.{◌≡◌, ◌*◌, ◌^◌, ◌≤◌, pos, ◌*ℤ◌, ◌≤ℤ◌, unsigned_abs, max};
+ghost use Rattle.fixed_interval.specs.Whole.{floor_over, ceil_over, least_of_four, greatest_of_four};
+ghost use Rattle.fixed_interval.specs.Enclosure.{natural, whole_root, root_up};
+
+pub fn exact_product(x: i128, y: i128) -> i128
+    requires { unsigned_abs x * unsigned_abs y ≤ 2 ^ 126 }
+    ensures { result ≡ x *ℤ y }
+{
+    x * y
+}
+
+fn least(a: i128, b: i128, c: i128, d: i128) -> i128
+    ensures { result ≡ least_of_four a b c d }
+{
+    a.min(b).min(c.min(d))
+}
+
+fn greatest(a: i128, b: i128, c: i128, d: i128) -> i128
+    ensures { result ≡ greatest_of_four a b c d }
+{
+    a.max(b).max(c.max(d))
+}
+
+/// The least and the greatest of the four products of an end from `lo` to `hi` and one from `low` to `high`.
+pub fn corner_products(lo: i128, hi: i128, low: i128, high: i128) -> (i128, i128)
+    requires { max (unsigned_abs lo) (unsigned_abs hi) * max (unsigned_abs low) (unsigned_abs high) ≤ 2 ^ 126 }
+    ensures least { result.0 ≡ least_of_four (lo *ℤ low) (lo *ℤ high) (hi *ℤ low) (hi *ℤ high) }
+    ensures greatest { result.1 ≡ greatest_of_four (lo *ℤ low) (lo *ℤ high) (hi *ℤ low) (hi *ℤ high) }
+{
+    let a = exact_product(lo, low);
+    let b = exact_product(lo, high);
+    let c = exact_product(hi, low);
+    let d = exact_product(hi, high);
+    (least(a, b, c, d), greatest(a, b, c, d))
+}
+
+/// `x` / 2^56, rounded down.
+pub fn floor_to_grid(x: i128) -> i128
+    requires { unsigned_abs x ≤ 2 ^ 126 }
+    ensures { result ≡ floor_over x (2 ^ 56) }
+{
+    x >> 56
+}
+
+/// `x` / 2^56, rounded up.
+pub fn ceil_to_grid(x: i128) -> i128
+    requires { unsigned_abs x ≤ 2 ^ 126 }
+    ensures { result ≡ ceil_over x (2 ^ 56) }
+{
+    -((-x) >> 56)
+}
+
+/// `x` / `n`, rounded down.
+pub fn floor_quotient(x: i128, n: u64) -> i128
+    requires positive { 1 ≤ n }
+    requires in_range { unsigned_abs x ≤ 2 ^ 126 }
+    ensures { result ≡ floor_over x n }
+{
+    x.div_euclid(n as i128)
+}
+
+/// `x` / `n`, rounded up.
+pub fn ceil_quotient(x: i128, n: u64) -> i128
+    requires positive { 1 ≤ n }
+    requires in_range { unsigned_abs x ≤ 2 ^ 126 }
+    ensures { result ≡ ceil_over x n }
+{
+    -(-x).div_euclid(n as i128)
+}
+
+/// `x` times its absolute value.
+pub fn signed_square(x: i128) -> i128
+    requires { unsigned_abs x * unsigned_abs x ≤ 2 ^ 126 }
+    ensures { result ≡ x *ℤ pos (unsigned_abs x) }
+{
+    x * x.abs()
+}
+
+/// A number of the grid, counted in 2^-112, where a negative one counts as 0.
+pub fn squared_grid(x: i128) -> u128
+    requires { x ≤ℤ pos (2 ^ 70) }
+    ensures { result ≡ natural x * 2 ^ 56 }
+{
+    (x.max(0) as u128) << 56
+}
+
+/// The square root of `n`, rounded down.
+pub fn root_down(n: u128) -> i128
+    ensures { result ≡ pos (whole_root n) }
+{
+    n.isqrt() as i128
+}
+
+/// The square root of `n`, rounded up.
+pub fn root_up(n: u128) -> i128
+    ensures { result ≡ pos (root_up n) }
+{
+    let root = n.isqrt();
+    if root * root == n {
+        root as i128
+    } else {
+        root as i128 + 1
+    }
+}
