@@ -1,0 +1,15 @@
+pub mod FractionSums
+pub mod PiLaws
+pub mod SeriesSteps
+pub mod SeriesLaws
+pub mod SeriesNesting
+pub mod Margins
+pub mod Linear
+pub mod QuarterLaws
+pub mod ExactQuarters
+pub mod GridQuarters
+pub mod SineSteps
+pub mod SineLaws
+pub mod SineNesting
+pub mod PieceWidths
+pub mod SineWidths

@@ -1,0 +1,6 @@
+pub mod Angle
+pub mod Pi
+pub mod Series
+pub mod Quarters
+pub mod Sine
+pub mod Laws

@@ -1,0 +1,119 @@
+// Sine and cosine of a range of angles: each quarter that the range meets goes through a series.
+
+ghost use Rattle.std.specs.Prelude.{◌≡◌, ◌*◌, ◌≤◌, ◌^◌, ℤ, pos, neg_ℤ, ◌+ℤ◌, ◌-ℤ◌, ◌*ℤ◌, ◌≤ℤ◌, unsigned_abs};
+ghost use Rattle.fixed_interval.specs.Fraction.{over};
+ghost use Rattle.fixed_interval.specs.Grid.{UNIT, reach, grid_times_ratio};
+ghost use Rattle.fixed_interval.specs.Interval.{ends};
+ghost use Rattle.trig_series.specs.Angle.{range_of};
+ghost use Rattle.trig_series.specs.Pi.{grid_pi};
+ghost use Rattle.trig_series.specs.Quarters.{eighth_turn, quarter_turn, half_turn, Meets, first_quarter as the_first_quarter, last_quarter as the_last_quarter, grid_piece, grid_over_quarters};
+ghost use Rattle.trig_series.specs.Series.{grid_sine_series, grid_cosine_series};
+ghost use Rattle.trig_series.specs.Sine.{modulo_4, grid_quarters_on, grid_sine, grid_cosine, grid_sine_beyond};
+
+use crate::Angle;
+use crate::series::{cosine_series, negated, pi, sine_series};
+use fixed_interval::Interval;
+
+/// 45, 90 and 180 degrees, in angle units.
+const EIGHTH_TURN: i128 = 6_480_000_000_000;
+
+const QUARTER_TURN: i128 = 12_960_000_000_000;
+
+const HALF_TURN: u64 = 25_920_000_000_000;
+
+/// An enclosure of the sine of every angle of `a`, which is at most 360 degrees wide.
+pub fn sine(a: Angle) -> Interval
+    requires { (a.hi -ℤ a.lo) ≤ℤ pos 51_840_000_000_000 }
+    ensures value { ends result ≡ grid_sine (range_of a) }
+    ensures bound { 3 * reach (ends result) ≤ 4 * UNIT }
+{
+    over_quarters(a, 0)
+}
+
+/// An enclosure of the cosine of every angle of `a`, which is at most 360 degrees wide.
+pub fn cosine(a: Angle) -> Interval
+    requires { (a.hi -ℤ a.lo) ≤ℤ pos 51_840_000_000_000 }
+    ensures value { ends result ≡ grid_cosine (range_of a) }
+    ensures bound { 3 * reach (ends result) ≤ 4 * UNIT }
+{
+    over_quarters(a, 1)
+}
+
+/// The sine of every angle of `a` with `ahead` quarters added.
+fn over_quarters(a: Angle, ahead: i128) -> Interval
+    requires { unsigned_abs ahead ≤ 1 }
+    ensures value { ends result ≡ grid_over_quarters (λ c. grid_sine_beyond (c +ℤ ahead) (grid_piece (range_of a) c)) (range_of a) }
+    ensures bound { 3 * reach (ends result) ≤ 4 * UNIT }
+{
+    let mut quarter = first_quarter(a.lo);
+    let last = last_quarter(a.hi);
+    let mut all = sine_in_quarter(a, quarter, ahead);
+    while quarter < last {
+        quarter += 1;
+        all = all.hull(sine_in_quarter(a, quarter, ahead));
+    }
+    all
+}
+
+/// The first quarter that ends at the angle or beyond it.
+fn first_quarter(angle: i128) -> i128
+    requires { unsigned_abs angle ≤ 2 ^ 70 }
+    ensures value { result ≡ the_first_quarter (over angle 1) }
+    ensures bound { unsigned_abs result ≤ 2 ^ 30 }
+{
+    -(EIGHTH_TURN - angle).div_euclid(QUARTER_TURN)
+}
+
+/// The last quarter that begins at the angle or before it.
+fn last_quarter(angle: i128) -> i128
+    requires { unsigned_abs angle ≤ 2 ^ 70 }
+    ensures value { result ≡ the_last_quarter (over angle 1) }
+    ensures bound { unsigned_abs result ≤ 2 ^ 30 }
+{
+    (angle + EIGHTH_TURN).div_euclid(QUARTER_TURN)
+}
+
+/// The sine of the angles of `a` in one quarter that it meets, with `ahead` quarters added.
+fn sine_in_quarter(a: Angle, quarter: i128, ahead: i128) -> Interval
+    requires met { Meets (range_of a) quarter }
+    requires ahead_small { unsigned_abs ahead ≤ 1 }
+    ensures value { ends result ≡ grid_sine_beyond (quarter +ℤ ahead) (grid_piece (range_of a) quarter) }
+    ensures bound { 3 * reach (ends result) ≤ 4 * UNIT }
+{
+    let low = turned_back(a.lo, quarter).max(-EIGHTH_TURN);
+    let high = turned_back(a.hi, quarter).min(EIGHTH_TURN);
+    sine_beyond(quarter + ahead, radians(low as i64, high as i64))
+}
+
+/// The angle less that many quarter turns.
+fn turned_back(angle: i128, quarters: i128) -> i128
+    requires angle_in_range { unsigned_abs angle ≤ 2 ^ 70 }
+    requires quarters_in_range { unsigned_abs quarters ≤ 2 ^ 31 }
+    ensures { result ≡ angle -ℤ (pos quarter_turn *ℤ quarters) }
+{
+    angle - QUARTER_TURN * quarters
+}
+
+/// The angles from `low` to `high`, at most 45 degrees either way, in radians.
+fn radians(low: i64, high: i64) -> Interval
+    requires ordered { low ≤ℤ high }
+    requires low_in_range { neg_ℤ (pos eighth_turn) ≤ℤ low }
+    requires high_in_range { high ≤ℤ pos eighth_turn }
+    ensures value { ends result ≡ grid_times_ratio grid_pi (record { lo = low; hi = high }) half_turn }
+    ensures bound { reach (ends result) ≤ UNIT }
+{
+    pi().times_ratio(low, high, HALF_TURN)
+}
+
+/// The sine of x radians with whole quarters added, for an x of at most 1 radian either way.
+fn sine_beyond(quarters: i128, x: Interval) -> Interval
+    requires { reach (ends x) ≤ UNIT }
+    ensures { ends result ≡ grid_quarters_on (modulo_4 quarters) (grid_sine_series (ends x)) (grid_cosine_series (ends x)) }
+{
+    match quarters.rem_euclid(4) {
+        0 => sine_series(x),
+        1 => cosine_series(x),
+        2 => negated(sine_series(x)),
+        _ => negated(cosine_series(x)),
+    }
+}
