@@ -1,0 +1,5 @@
+pub mod RangeLemmas
+pub mod RangeLaws
+pub mod Sizes
+pub mod Narrowing
+pub mod SunLaws
