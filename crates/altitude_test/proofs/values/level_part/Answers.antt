@@ -1,0 +1,10 @@
+use Rattle.std.proofs.Common.{◌*◌, ◌/◌, arith}
+use Rattle.fixed_interval.specs.Grid.{UNIT, reach}
+use Rattle.fixed_interval.specs.Interval.{ends}
+use Rattle.solar_terms.proofs.Sizes.{product_at_most}
+use Rattle.altitude_test.proofs.values.level_part.Goals as goal
+
+pub returns-clause-bound : goal.returns-clause-bound
+returns-clause-bound c =
+    let h = product_at_most _ _ _ (4 * UNIT / 3) (416 * UNIT / 100) c.product.ensures.bound (omega arith) (omega arith) in
+    omega (arith, h)

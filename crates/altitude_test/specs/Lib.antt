@@ -1,0 +1,4 @@
+pub mod Values
+pub mod ValueLaws
+pub mod Conditions
+pub mod Verdicts

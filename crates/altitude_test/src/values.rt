@@ -1,0 +1,73 @@
+// The values of a box of places and a range of minutes.
+ghost use Rattle.std.specs.Prelude.{◌≡◌, ◌*◌, ◌≤◌, pos, ◌-ℤ◌, ◌≤ℤ◌};
+ghost use Rattle.fixed_interval.specs.Grid.{UNIT, reach, grid_sum, grid_product};
+ghost use Rattle.fixed_interval.specs.Interval.{ends};
+ghost use Rattle.trig_series.specs.Angle.{range_of};
+ghost use Rattle.trig_series.specs.Sine.{grid_sine, grid_cosine};
+ghost use Rattle.solar_terms.specs.Sun.{minutes_of, terms_of};
+ghost use Rattle.altitude_test.specs.Values.{box_of, grid_altitude_sine, grid_altitude_value, grid_meridian_value};
+
+use crate::Place;
+use crate::angles::{latitude, sidereal_time};
+use crate::products::{product_of_three, product_of_two};
+use fixed_interval::Interval;
+use solar_terms::{Minutes, Sun};
+use trig_series::{Angle, cosine, sine};
+
+// cos θ · cos L + sin θ · cos e · sin L at the sidereal time θ.
+fn toward_meridian(s: &Sun, theta: Angle) -> Interval
+    requires { (theta.hi -ℤ theta.lo) ≤ℤ pos 51840000000000 }
+    ensures value { ends result ≡ grid_sum
+        (grid_product (grid_cosine (range_of theta)) (ends s.now.cos_l))
+        (grid_product (grid_product (grid_sine (range_of theta)) (ends s.now.cos_e)) (ends s.now.sin_l)) }
+    ensures bound { 100 * reach (ends result) ≤ 416 * UNIT }
+{
+    let level = product_of_two(cosine(theta), s.cos_l);
+    level.sum(product_of_three(sine(theta), s.cos_e, s.sin_l))
+}
+
+// cos φ times the part toward the meridian.
+fn level_part(s: &Sun, phi: Angle, theta: Angle) -> Interval
+    requires phi_narrow { (phi.hi -ℤ phi.lo) ≤ℤ pos 51840000000000 }
+    requires theta_narrow { (theta.hi -ℤ theta.lo) ≤ℤ pos 51840000000000 }
+    ensures value { ends result ≡ grid_product
+        (grid_cosine (range_of phi))
+        (grid_sum
+        (grid_product (grid_cosine (range_of theta)) (ends s.now.cos_l))
+        (grid_product (grid_product (grid_sine (range_of theta)) (ends s.now.cos_e)) (ends s.now.sin_l))) }
+    ensures bound { 100 * reach (ends result) ≤ 555 * UNIT }
+{
+    cosine(phi).product(toward_meridian(s, theta))
+}
+
+/// The sine of the sun's altitude over the places `p` at the minutes `m`, whose sun is `s`: at most 8.
+#[tactic(auto, unfolding(crate::specs::Values::grid_altitude_sine))]
+pub fn altitude_sine(s: &Sun, m: Minutes, p: Place) -> Interval
+    ensures value { ends result ≡ grid_altitude_sine (terms_of s.now) (minutes_of m) (box_of p) }
+    ensures bound { reach (ends result) ≤ 8 * UNIT }
+{
+    let phi = latitude(p);
+    let up = product_of_three(sine(phi), s.sin_e, s.sin_l);
+    up.sum(level_part(s, phi, sidereal_time(s, m, p)))
+}
+
+/// The altitude value for every angle of a range: above zero where the sun is above each of these angles below
+/// the horizon, below zero where it is below each.
+#[tactic(auto, unfolding(crate::specs::Values::grid_altitude_value))]
+pub fn altitude_value(s: &Sun, m: Minutes, p: Place, angle: Angle) -> Interval
+    requires not_before { pos 0 ≤ℤ angle.lo }
+    requires not_after { angle.hi ≤ℤ pos 4320000000000 }
+    ensures { ends result ≡ grid_altitude_value (terms_of s.now) (minutes_of m) (box_of p) (range_of angle) }
+{
+    altitude_sine(s, m, p).sum(sine(angle))
+}
+
+/// The meridian value: above zero where the sun is past the meridian, below zero where it is before it.
+#[tactic(auto, unfolding(crate::specs::Values::grid_meridian_value))]
+pub fn meridian_value(s: &Sun, m: Minutes, p: Place) -> Interval
+    ensures { ends result ≡ grid_meridian_value (terms_of s.now) (minutes_of m) (box_of p) }
+{
+    let theta = sidereal_time(s, m, p);
+    let east = product_of_two(sine(theta), s.cos_l);
+    east.difference(product_of_three(cosine(theta), s.cos_e, s.sin_l))
+}
