@@ -1,0 +1,6 @@
+pub mod Decimals
+pub mod Request
+pub mod Answer
+pub mod Streams
+pub mod Verdict
+pub mod Laws
