@@ -1,0 +1,42 @@
+// The program: the words of the command line and the standard streams, handed to the top call.
+// Contract: none of its own; it ends with the status that `run_plain` answers.
+#![tactic(auto)]
+
+use source_sink::{StdSink, StdSource};
+use std::env;
+use std::io::ErrorKind;
+use std::process::ExitCode;
+use std::rt::Env;
+use timetable::{Status, run_plain};
+
+/// The words behind the program's name. Where one is no text, none, which the program doesn't take either.
+fn words(rt: &(impl Env + AllocGlobal)) -> Result<Vec<String>, Status> {
+    let mut words = Vec::new(rt.alloc());
+    match env::args(rt) {
+        Ok(all) => {
+            for word in all.skip(1) {
+                if words.push(word).is_err() {
+                    return Err(Status::NoMemory);
+                }
+            }
+            Ok(words)
+        }
+        Err(fault) if fault.kind() == ErrorKind::InvalidData => Ok(words),
+        Err(_) => Err(Status::NoMemory),
+    }
+}
+
+fn run(rt: &HostRuntime) -> Status {
+    let words = match words(rt) {
+        Ok(words) => words,
+        Err(status) => return status,
+    };
+    let mut source = StdSource::new(rt.stdin());
+    let mut out = StdSink::new(rt.stdout());
+    let mut err = StdSink::new(rt.stderr());
+    run_plain(rt.alloc(), &words, &mut source, &mut out, &mut err)
+}
+
+fn main(rt: HostRuntime) -> ExitCode {
+    ExitCode::from(run(&rt).number())
+}
