@@ -1,0 +1,155 @@
+// The command `sun`: its words, its line and its sinks.
+use source_sink::{MemSink, SureSource};
+use std::alloc::Global;
+use std::process::Abort;
+use std::test::Fail;
+use timetable::{Status, run_plain};
+
+const LINE: &str = "minute 0 lon 0.000000 lat 0.000000 angle 0.000000 above\n";
+
+const USAGE: &str =
+    "usage: timetable table|cover [--workers W] | demo [--number M] [--workers W] | plain | check | order | sun MINUTE LON LAT WHAT\n";
+
+/// A sink that takes one byte a call, whose calls with these numbers fail.
+fn sink(alloc: Global, capacity: usize, failing: &[u32]) -> Result<MemSink, Fail> {
+    Ok(MemSink::new(alloc, capacity, failing.to_vec(alloc)?, 1)?)
+}
+
+/// Runs the words of a line.
+fn run(alloc: Global, line: &str, out: &mut MemSink, err: &mut MemSink) -> Result<Status, Fail> {
+    let mut words = Vec::new(alloc);
+    for word in line.split_whitespace() {
+        words.push(String::from_str(alloc, word)?)?;
+    }
+    let mut source = SureSource::new(Vec::new(alloc));
+    Ok(run_plain(alloc, &words, &mut source, out, err))
+}
+
+/// The status of the words and all that they write.
+fn expect(
+    rt: &(impl Abort + AllocGlobal),
+    words: &str,
+    status: Status,
+    out: &str,
+    err: &str,
+) -> Result<(), Fail> {
+    let mut written = sink(rt.alloc(), 200, &[])?;
+    let mut reported = sink(rt.alloc(), 200, &[])?;
+    let found = run(rt.alloc(), words, &mut written, &mut reported)?;
+    assert_eq!(rt; found, status, "at {words}");
+    assert_eq!(rt; written.bytes(), out.as_bytes(), "at {words}");
+    assert_eq!(rt; reported.bytes(), err.as_bytes(), "at {words}");
+    Ok(())
+}
+
+#[test]
+fn wrong_words_get_the_usage_line(rt: HostRuntime) -> Result<(), Fail> {
+    for words in [
+        "",
+        "tabel",
+        "order",
+        "sun",
+        "sun 0 0 0",
+        "sun 0 0 0 0 0",
+        "sun -0 0 0 0",
+        "sun +1 0 0 0",
+        "sun 01 0 0 0",
+        "sun 00 0 0 0",
+        "sun - 0 0 0",
+        "sun 1.0 0 0 0",
+        "sun 53200001 0 0 0",
+        "sun -53200001 0 0 0",
+        "sun 99999999999999999999 0 0 0",
+        "sun 0 - 0 0",
+        "sun 0 . 0 0",
+        "sun 0 1. 0 0",
+        "sun 0 .5 0 0",
+        "sun 0 +1 0 0",
+        "sun 0 --1 0 0",
+        "sun 0 1e1 0 0",
+        "sun 0 1,5 0 0",
+        "sun 0 0001 0 0",
+        "sun 0 0.0000001 0 0",
+        "sun 0 360.000001 0 0",
+        "sun 0 -360.000001 0 0",
+        "sun 0 0 65.000001 0",
+        "sun 0 0 -65.000001 0",
+        "sun 0 0 0 -1",
+        "sun 0 0 0 30.000001",
+        "sun 0 0 0 meridian",
+        "sun 0 0 0 asr1",
+        "sun 0 0 0 asr2",
+    ] {
+        expect(&rt, words, Status::Usage, "", USAGE)?;
+    }
+    Ok(())
+}
+
+#[test]
+fn right_words_get_a_line(rt: HostRuntime) -> Result<(), Fail> {
+    for (words, line) in [
+        ("sun 0 0 0 0", LINE),
+        (
+            "sun 720 0 0 18",
+            "minute 720 lon 0.000000 lat 0.000000 angle 18.000000 below\n",
+        ),
+        (
+            "sun -52560000 0 0 0",
+            "minute -52560000 lon 0.000000 lat 0.000000 angle 0.000000 above\n",
+        ),
+        (
+            "sun 53200000 360 65 30",
+            "minute 53200000 lon 360.000000 lat 65.000000 angle 30.000000 below\n",
+        ),
+        (
+            "sun -53200000 -360 -65 0",
+            "minute -53200000 lon -360.000000 lat -65.000000 angle 0.000000 below\n",
+        ),
+        (
+            "sun 1 -0 007.5 00.000001",
+            "minute 1 lon 0.000000 lat 7.500000 angle 0.000001 above\n",
+        ),
+        (
+            "sun 208 -0.1 65.0 29.999999",
+            "minute 208 lon -0.100000 lat 65.000000 angle 29.999999 above\n",
+        ),
+    ] {
+        expect(&rt, words, Status::Done, line, "")?;
+    }
+    Ok(())
+}
+
+#[test]
+fn a_failed_write_is_no_later_fault(rt: HostRuntime) -> Result<(), Fail> {
+    let mut out = sink(rt.alloc(), 200, &[1])?;
+    let mut err = sink(rt.alloc(), 200, &[])?;
+    let first = run(rt.alloc(), "sun 0 0 0 0", &mut out, &mut err)?;
+    assert_eq!(rt; first, Status::WriteFault);
+    assert_eq!(rt; err.bytes(), b"write fault\n".as_slice());
+    let second = run(rt.alloc(), "sun 0 0 0 0", &mut out, &mut err)?;
+    assert_eq!(rt; second, Status::Done);
+    assert_eq!(rt; out.bytes(), LINE.as_bytes());
+    Ok(())
+}
+
+#[test]
+fn a_failing_error_stream_is_passed_over(rt: HostRuntime) -> Result<(), Fail> {
+    let mut out = sink(rt.alloc(), 0, &[])?;
+    let mut err = sink(rt.alloc(), 200, &[1])?;
+    assert_eq!(rt; run(rt.alloc(), "sun", &mut out, &mut err)?, Status::Usage);
+    assert_eq!(rt; err.bytes(), b"".as_slice());
+    Ok(())
+}
+
+#[test]
+fn a_full_sink_holds_the_first_bytes(rt: HostRuntime) -> Result<(), Fail> {
+    let line = LINE.as_bytes();
+    for capacity in 0..line.len() {
+        let mut out = sink(rt.alloc(), capacity, &[])?;
+        let mut err = sink(rt.alloc(), 200, &[])?;
+        let status = run(rt.alloc(), "sun 0 0 0 0", &mut out, &mut err)?;
+        assert_eq!(rt; status, Status::WriteFault);
+        assert_eq!(rt; out.bytes(), &line[..capacity]);
+    }
+    Ok(())
+}
