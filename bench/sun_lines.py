@@ -1,0 +1,64 @@
+"""Compares random lines of `sun` with an angle, as a program prints them, with those of a reference, byte for byte.
+
+    python3 bench/sun_lines.py COUNT PROGRAM REFERENCE [SEED]
+
+PROGRAM and REFERENCE are commands, each one argument, as './timetable' or 'python3 reference.py': they are run with
+the words of `sun`. Compared are the output, the error stream and the status. The limits of each word are among them,
+and spellings with and without a point. It prints what differs, and exits with 1 if anything did.
+"""
+import random
+import shlex
+import subprocess
+import sys
+
+MINUTES = ['0', '-1', '53200000', '-53200000']
+LONGITUDES = ['0', '-0', '360', '-360', '360.000000', '0.000001', '-0.000001', '007.5']
+LATITUDES = ['0', '-0.0', '65', '-65', '65.000000', '-64.999999', '05']
+ANGLES = ['0', '0.0', '30', '30.000000', '29.999999', '0.000001', '18', '00.5']
+
+
+def decimal(draw, low, high):
+    """A decimal between two whole limits, with none to six places."""
+    places = draw.randint(0, 6)
+    value = draw.randint(low * 10 ** places, high * 10 ** places)
+    whole, part = divmod(abs(value), 10 ** places)
+    return '-' * (value < 0) + str(whole) + ('.%0*d' % (places, part) if places else '')
+
+
+def words(draw):
+    """The words of one line; one word in four is a limit."""
+    def choose(limits, other):
+        return draw.choice(limits) if draw.random() < 0.25 else other
+
+    return [
+        'sun',
+        choose(MINUTES, str(draw.randint(-53_200_000, 53_200_000))),
+        choose(LONGITUDES, decimal(draw, -360, 360)),
+        choose(LATITUDES, decimal(draw, -65, 65)),
+        choose(ANGLES, decimal(draw, 0, 30)),
+    ]
+
+
+def answer(command, line):
+    run = subprocess.run(shlex.split(command) + line, stdin=subprocess.DEVNULL, capture_output=True)
+    return run.returncode, run.stdout, run.stderr
+
+
+def main():
+    if len(sys.argv) not in (4, 5):
+        sys.exit(__doc__)
+    count, program, reference = int(sys.argv[1]), sys.argv[2], sys.argv[3]
+    draw = random.Random(int(sys.argv[4]) if len(sys.argv) == 5 else 1)
+    different = 0
+    for _ in range(count):
+        line = words(draw)
+        found, wanted = answer(program, line), answer(reference, line)
+        if found != wanted:
+            different += 1
+            print(' '.join(line), found, wanted, sep='\n  ')
+    print('%d lines, %d different' % (count, different))
+    sys.exit(1 if different else 0)
+
+
+if __name__ == '__main__':
+    main()
