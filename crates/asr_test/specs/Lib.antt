@@ -1,0 +1,2 @@
+pub mod Asr
+pub mod AsrLaws

@@ -1,0 +1,99 @@
+// The sun at its noon height: sine and cosine of its declination d, and of φ - d at the latitude φ.
+ghost use Rattle.std.specs.Prelude.{◌≡◌, ◌*◌, ◌≤◌};
+ghost use Rattle.fixed_interval.specs.Grid.{UNIT, reach, grid_sum, grid_difference, grid_product, grid_root};
+ghost use Rattle.fixed_interval.specs.Interval.{ends};
+ghost use Rattle.solar_terms.specs.Sun.{terms_of};
+ghost use Rattle.altitude_test.specs.Values.{box_of};
+ghost use Rattle.asr_test.specs.Asr.{grid_one, grid_sine_declination, grid_cosine_declination, grid_noon_cosine, grid_noon_sine};
+
+use altitude_test::Place;
+use altitude_test::angles::latitude;
+use fixed_interval::Interval;
+use solar_terms::Sun;
+use trig_series::{cosine, sine};
+
+#[tactic(auto, unfolding(crate::specs::Asr::grid_one))]
+pub(crate) fn one() -> Interval
+    ensures value { ends result ≡ grid_one }
+    ensures bound { reach (ends result) ≤ UNIT }
+{
+    Interval::new(1 << 56, 1 << 56)
+}
+
+// sin d = sin e · sin L.
+#[tactic(auto, unfolding(crate::specs::Asr::grid_sine_declination))]
+fn sine_declination(s: &Sun) -> Interval
+    ensures value { ends result ≡ grid_sine_declination (terms_of s.now) }
+    ensures bound { 100 * reach (ends result) ≤ 178 * UNIT }
+{
+    s.sin_e.product(s.sin_l)
+}
+
+// sin d · sin d.
+fn square_of_sine(w: Interval) -> Interval
+    requires { 100 * reach (ends w) ≤ 178 * UNIT }
+    ensures value { ends result ≡ grid_product (ends w) (ends w) }
+    ensures bound { 100 * reach (ends result) ≤ 317 * UNIT }
+{
+    w.product(w)
+}
+
+// The argument of the root in cos d.
+fn one_less_square(w: Interval) -> Interval
+    requires { 100 * reach (ends w) ≤ 178 * UNIT }
+    ensures value { ends result ≡ grid_difference grid_one (grid_product (ends w) (ends w)) }
+    ensures bound { 100 * reach (ends result) ≤ 417 * UNIT }
+{
+    one().difference(square_of_sine(w))
+}
+
+// cos d = root(1 - sin d · sin d).
+#[tactic(auto, unfolding(crate::specs::Asr::grid_cosine_declination))]
+fn cosine_declination(s: &Sun) -> Interval
+    ensures value { ends result ≡ grid_cosine_declination (terms_of s.now) }
+    ensures bound { 100 * reach (ends result) ≤ 205 * UNIT }
+{
+    one_less_square(sine_declination(s)).root()
+}
+
+// A sine or cosine of the latitude times the cosine of d.
+fn times_cosine(a: Interval, cosine_declination: Interval) -> Interval
+    requires a_small { 3 * reach (ends a) ≤ 4 * UNIT }
+    requires cosine_small { 100 * reach (ends cosine_declination) ≤ 205 * UNIT }
+    ensures value { ends result ≡ grid_product (ends a) (ends cosine_declination) }
+    ensures bound { 1000 * reach (ends result) ≤ 2734 * UNIT }
+{
+    a.product(cosine_declination)
+}
+
+// A sine or cosine of the latitude times the sine of d.
+fn times_sine(a: Interval, sine_declination: Interval) -> Interval
+    requires a_small { 3 * reach (ends a) ≤ 4 * UNIT }
+    requires sine_small { 100 * reach (ends sine_declination) ≤ 178 * UNIT }
+    ensures value { ends result ≡ grid_product (ends a) (ends sine_declination) }
+    ensures bound { 1000 * reach (ends result) ≤ 2374 * UNIT }
+{
+    a.product(sine_declination)
+}
+
+// cos (φ - d).
+#[tactic(auto, unfolding(crate::specs::Asr::grid_noon_cosine))]
+pub(crate) fn noon_cosine(s: &Sun, p: Place) -> Interval
+    ensures value { ends result ≡ grid_noon_cosine (terms_of s.now) (box_of p) }
+    ensures bound { 100 * reach (ends result) ≤ 511 * UNIT }
+{
+    let phi = latitude(p);
+    let level = times_cosine(cosine(phi), cosine_declination(s));
+    level.sum(times_sine(sine(phi), sine_declination(s)))
+}
+
+// sin (φ - d).
+#[tactic(auto, unfolding(crate::specs::Asr::grid_noon_sine))]
+pub(crate) fn noon_sine(s: &Sun, p: Place) -> Interval
+    ensures value { ends result ≡ grid_noon_sine (terms_of s.now) (box_of p) }
+    ensures bound { 100 * reach (ends result) ≤ 511 * UNIT }
+{
+    let phi = latitude(p);
+    let north = times_cosine(sine(phi), cosine_declination(s));
+    north.difference(times_sine(cosine(phi), sine_declination(s)))
+}
