@@ -1,8 +1,8 @@
 -- Each exact operation keeps order, and gives an enclosure that lies in the one of arguments that hold its own.
-use Rattle.std.proofs.Common.{◌≡◌, ℕ, zero, suc, ◌+◌, ◌*◌, ◌^◌, ◌<◌, ◌≤◌, ◌⊎◌, ℤ, pos, negsuc, neg_ℤ, ◌*ℤ◌, ◌≤ℤ◌, ◌<ℤ◌, max, unsigned_abs, arith, ap, sym, ◌∙◌, refl, inl, inr, lit≤, pow_pos, pow-add, le_of_mul-le-mul_right, mul-le-mul_right, mul-pos}
+use Rattle.std.proofs.Common.{◌≡◌, ℕ, suc, ◌+◌, ◌*◌, ◌^◌, ◌<◌, ◌≤◌, ℤ, pos, ◌*ℤ◌, ◌≤ℤ◌, max, unsigned_abs, arith, ap, ◌∙◌, refl, inl, inr, lit≤, pow_pos, pow-add, le_of_mul-le-mul_right, mul-le-mul_right, mul-pos}
 use Rattle.std.proofs.lemmas.Int.{ints, by_lt_z, unsigned_abs-mul}
 use borrow.Author.Differences.{up, down, same_in}
-use Rattle.fixed_interval.specs.Fraction.{Fraction, ◌≤ᶠ◌, ◌<ᶠ◌, over, negate, plus, times, least, greatest, absolute, floor_at, ceil_at}
+use Rattle.fixed_interval.specs.Fraction.{Fraction, ◌≤ᶠ◌, over, negate, times, least, greatest, absolute, floor_at, ceil_at}
 use Rattle.fixed_interval.specs.Enclosure.{Enclosure, IsOrdered, LiesIn, IsAboveZero, IsBelowZero, point, negated, sum, difference, product, scale_units, divide_by, times_ratio, hull, magnitude, signed_square, root, whole_root, root_up, natural}
 use Rattle.fixed_interval.proofs.Whole.{parts}
 use Rattle.fixed_interval.proofs.FractionLaws.{le_parts, le_from, ≤ᶠ_refl, ≤ᶠ_trans, ≤ᶠ_total, <ᶠ_le, <ᶠ_irrefl, <ᶠ_≤ᶠ_trans, ≤ᶠ_<ᶠ_trans, floor_at_most_ceil, floor_finer, ceil_finer, negate_le, plus_mono, times_mono, times_anti, times_turn, least_left, least_right, least_above, least_mono, greatest_left, greatest_right, greatest_below, greatest_mono, greatest_cases, over_mono, floor_mono, ceil_mono}

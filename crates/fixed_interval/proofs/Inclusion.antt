@@ -1,7 +1,8 @@
 -- The grid form of each operation keeps order, and holds the exact result of arguments that lie in its own.
-use Rattle.std.proofs.Common.{ℕ, ◌≤◌, ◌^◌, ℤ, ◌≤ℤ◌, lit≤}
-use Rattle.fixed_interval.specs.Fraction.{◌≤ᶠ◌, over}
-use Rattle.fixed_interval.specs.Enclosure.{Enclosure, IsOrdered, LiesIn, negated, sum, difference, product, scale_units, divide_by, times_ratio, hull, magnitude, signed_square, root}
+use Rattle.std.proofs.Common.{ℕ, pos, ◌≤ℤ◌, ◌<ℤ◌, arith, lit≤}
+use Rattle.std.proofs.lemmas.Int.{ints}
+use Rattle.fixed_interval.specs.Fraction.{over}
+use Rattle.fixed_interval.specs.Enclosure.{Enclosure, IsOrdered, LiesIn, IsAboveZero, IsBelowZero, negated, sum, difference, product, scale_units, divide_by, times_ratio, hull, magnitude, signed_square, root}
 use Rattle.fixed_interval.specs.Grid.{Ends, Range, UNIT, DEPTH, enclosure_of, enclosure_of_range, rounded_out, range_around, grid_negated, grid_sum, grid_difference, grid_product, grid_divide_by, grid_hull, grid_magnitude, grid_signed_square, grid_root, grid_scale_units, grid_times_ratio}
 use Rattle.fixed_interval.proofs.FractionLaws.{over_mono, from_over, floor_below, floor_greatest, floor_mono, ceil_above, ceil_least, ceil_mono, floor_at_most_ceil}
 use Rattle.fixed_interval.proofs.EnclosureLaws.{LiesIn_trans, negated_mono, negated_ordered, sum_mono, sum_ordered, difference_mono, difference_ordered, product_mono, product_ordered, scale_units_mono, scale_units_ordered, divide_by_mono, divide_by_ordered, times_ratio_mono, times_ratio_ordered, hull_mono, hull_ordered, magnitude_mono, magnitude_ordered, signed_square_mono, signed_square_ordered, root_mono, root_ordered}
@@ -22,6 +23,23 @@ lower_end a b h = from_over UNIT _ _ (lit≤ tt) h.low
 pub upper_end : (a b : Ends) → LiesIn (enclosure_of a) (enclosure_of b) → a.hi ≤ℤ b.hi
 unfolding enclosure_of
 upper_end a b h = from_over UNIT _ _ (lit≤ tt) h.high
+
+-- ends have a sign where their nearer one does
+pub above_of_ends : (a : Ends) → pos 0 <ℤ a.lo → IsAboveZero (enclosure_of a)
+unfolding enclosure_of over
+above_of_ends a h = record { above = record { crossed = omega (arith, ints) } }
+
+pub ends_above : (a : Ends) → IsAboveZero (enclosure_of a) → pos 0 <ℤ a.lo
+unfolding enclosure_of over
+ends_above a h = omega (arith, ints, h.above.crossed)
+
+pub below_of_ends : (a : Ends) → a.hi <ℤ pos 0 → IsBelowZero (enclosure_of a)
+unfolding enclosure_of over
+below_of_ends a h = record { below = record { crossed = omega (arith, ints) } }
+
+pub ends_below : (a : Ends) → IsBelowZero (enclosure_of a) → a.hi <ℤ pos 0
+unfolding enclosure_of over
+ends_below a h = omega (arith, ints, h.below.crossed)
 
 pub range_ordered : (r : Range) → r.lo ≤ℤ r.hi → IsOrdered (enclosure_of_range r)
 unfolding enclosure_of_range

@@ -20,22 +20,27 @@ floored r x z n p e f h = settled r (floor_over z n) (e ∙ ap (λ y. floor_over
 pub ceiled : (r x z : ℤ) (n : ℕ) → 0 < n → r ≡ ceil_over (bits_of x) n → x ≡ z → unsigned_abs z ≤ 2 ^ 126 → bits_of r ≡ ceil_over z n
 ceiled r x z n p e f h = settled r (ceil_over z n) (e ∙ ap (λ y. ceil_over y n) (settled x z f h)) (le_trans (abs-ceil_over z (2 ^ 126) n p h) (div_ceil_no_more (2 ^ 126) n p))
 
--- the products of an interval's ends with two numbers p and q, as the code has them
-module _ (a : Interval) (b : Ends) (p q : ℤ) (low : p ≡ b.lo) (high : q ≡ b.hi) (fits : reach (ends a) * reach b ≤ 2 ^ 126) where
+-- an interval's ends and the two numbers p and q, which the code reads as the ends of b, are factors whose products fit
+pub record AreFactors (a : Interval) (b : Ends) (p q : ℤ) : Type 0 where
+  pub low : p ≡ b.lo
+  pub high : q ≡ b.hi
+  pub fits : reach (ends a) * reach b ≤ 2 ^ 126
+
+module _ {a : Interval} {b : Ends} {p q : ℤ} (f : AreFactors a b p q) where
   pub corners_fit : max (unsigned_abs (bits_of a.lo)) (unsigned_abs (bits_of a.hi)) * max (unsigned_abs p) (unsigned_abs q) ≤ 2 ^ 126
-  corners_fit = rw (within a.lo a.low_in_range, within a.hi a.high_in_range, low, high) fits
+  corners_fit = rw (within a.lo a.low_in_range, within a.hi a.high_in_range, f.low, f.high) f.fits
 
   pub least_corner : (x : ℤ) → x ≡ least_of_four (bits_of a.lo *ℤ p) (bits_of a.lo *ℤ q) (bits_of a.hi *ℤ p) (bits_of a.hi *ℤ q) → x ≡ least_product (ends a) b
-  least_corner x e = e ∙ (λ i. let s = within a.lo a.low_in_range i in let t = within a.hi a.high_in_range i in least_of_four (s *ℤ low i) (s *ℤ high i) (t *ℤ low i) (t *ℤ high i))
+  least_corner x e = e ∙ (λ i. let s = within a.lo a.low_in_range i in let t = within a.hi a.high_in_range i in least_of_four (s *ℤ f.low i) (s *ℤ f.high i) (t *ℤ f.low i) (t *ℤ f.high i))
 
   pub greatest_corner : (x : ℤ) → x ≡ greatest_of_four (bits_of a.lo *ℤ p) (bits_of a.lo *ℤ q) (bits_of a.hi *ℤ p) (bits_of a.hi *ℤ q) → x ≡ greatest_product (ends a) b
-  greatest_corner x e = e ∙ (λ i. let s = within a.lo a.low_in_range i in let t = within a.hi a.high_in_range i in greatest_of_four (s *ℤ low i) (s *ℤ high i) (t *ℤ low i) (t *ℤ high i))
+  greatest_corner x e = e ∙ (λ i. let s = within a.lo a.low_in_range i in let t = within a.hi a.high_in_range i in greatest_of_four (s *ℤ f.low i) (s *ℤ f.high i) (t *ℤ f.low i) (t *ℤ f.high i))
 
   least_small : unsigned_abs (least_product (ends a) b) ≤ 2 ^ 126
-  least_small = le_trans (abs-least_product (ends a) b) fits
+  least_small = le_trans (abs-least_product (ends a) b) f.fits
 
   greatest_small : unsigned_abs (greatest_product (ends a) b) ≤ 2 ^ 126
-  greatest_small = le_trans (abs-greatest_product (ends a) b) fits
+  greatest_small = le_trans (abs-greatest_product (ends a) b) f.fits
 
   pub least_fits : (x : ℤ) → x ≡ least_of_four (bits_of a.lo *ℤ p) (bits_of a.lo *ℤ q) (bits_of a.hi *ℤ p) (bits_of a.hi *ℤ q) → unsigned_abs (bits_of x) ≤ 2 ^ 126
   least_fits x e = rw (settled x _ (least_corner x e) least_small) least_small
@@ -44,16 +49,20 @@ module _ (a : Interval) (b : Ends) (p q : ℤ) (low : p ≡ b.lo) (high : q ≡ 
   greatest_fits x e = rw (settled x _ (greatest_corner x e) greatest_small) greatest_small
 
   pub quotient_low : (r x : ℤ) (n : ℕ) → 0 < n → x ≡ least_of_four (bits_of a.lo *ℤ p) (bits_of a.lo *ℤ q) (bits_of a.hi *ℤ p) (bits_of a.hi *ℤ q) → r ≡ floor_over (bits_of x) n → bits_of r ≡ floor_over (least_product (ends a) b) n
-  quotient_low r x n h e f = floored r x _ n h f (least_corner x e) least_small
+  quotient_low r x n h e g = floored r x _ n h g (least_corner x e) least_small
 
   pub quotient_high : (r x : ℤ) (n : ℕ) → 0 < n → x ≡ greatest_of_four (bits_of a.lo *ℤ p) (bits_of a.lo *ℤ q) (bits_of a.hi *ℤ p) (bits_of a.hi *ℤ q) → r ≡ ceil_over (bits_of x) n → bits_of r ≡ ceil_over (greatest_product (ends a) b) n
-  quotient_high r x n h e f = ceiled r x _ n h f (greatest_corner x e) greatest_small
+  quotient_high r x n h e g = ceiled r x _ n h g (greatest_corner x e) greatest_small
 
-pub ratio_fits : (a : Interval) (low high : ℤ) → unsigned_abs low ≤ 2 ^ 44 → unsigned_abs high ≤ 2 ^ 44 → reach (ends a) * max (unsigned_abs low) (unsigned_abs high) ≤ 2 ^ 126
-ratio_fits a low high h k =
+pub interval_factors : (a b : Interval) → reach (ends a) * reach (ends b) ≤ 2 ^ 126 → AreFactors a (ends b) (bits_of b.lo) (bits_of b.hi)
+interval_factors a b h = record { low = within b.lo b.low_in_range; high = within b.hi b.high_in_range; fits = h }
+
+-- an interval and a range of units always are
+pub range_factors : (a : Interval) (b : Ends) → unsigned_abs b.lo ≤ 2 ^ 44 → unsigned_abs b.hi ≤ 2 ^ 44 → AreFactors a b (bits_of (to_z w64 (of_z w64 b.lo))) (bits_of (to_z w64 (of_z w64 b.hi)))
+range_factors a b h k =
     let s : reach (ends a) ≤ 2 ^ 71 = omega (arith, a.low_in_range, a.high_in_range) in
-    let t : max (unsigned_abs low) (unsigned_abs high) ≤ 2 ^ 44 = omega arith in
-    le_trans (mul-le-mul s t) (lit≤ tt)
+    let t : reach b ≤ 2 ^ 44 = omega arith in
+    record { low = narrow b.lo (le_trans h (lit≤ tt)); high = narrow b.hi (le_trans k (lit≤ tt)); fits = le_trans (mul-le-mul s t) (lit≤ tt) }
 
 -- ---- a number times whole units
 pub scaled : (x u : ℤ) → unsigned_abs x ≤ 2 ^ 71 → pos 0 ≤ℤ u → u ≤ℤ pos (2 ^ 45) → bits_of x *ℤ bits_of (to_z w64 (of_z w64 u)) ≡ x *ℤ pos (unsigned_abs u)

@@ -1,5 +1,5 @@
--- How far the ends of a result reach.
-use Rattle.std.proofs.Common.{◌≡◌, ℕ, ◌*◌, ◌+◌, ◌/◌, ◌%◌, ◌<◌, ◌≤◌, max, min, ℤ, pos, negsuc, neg_ℤ, ◌+ℤ◌, ◌-ℤ◌, ◌*ℤ◌, ◌≤ℤ◌, unsigned_abs, arith, mul-le-mul, mul-le-mul_right, zero, suc, refl, le_of_mul-le-mul_right, lt_of_mul-lt-mul_right, le-mul_of_pos_right}
+-- How far the ends of a result reach, and that they stay in order: over the whole numbers of each plain formula.
+use Rattle.std.proofs.Common.{◌≡◌, ℕ, ◌*◌, ◌+◌, ◌/◌, ◌%◌, ◌<◌, ◌≤◌, max, min, ℤ, pos, negsuc, neg_ℤ, ◌+ℤ◌, ◌-ℤ◌, ◌*ℤ◌, ◌≤ℤ◌, unsigned_abs, Bool, true, false, nat_le, ◌⊎◌, inl, inr, leb-true, leb-false, arith, mul-le-mul, mul-le-mul_right, zero, suc, refl, le_of_mul-le-mul_right, lt_of_mul-lt-mul_right, le-mul_of_pos_right}
 use Rattle.std.specs.Int.{int_min, int_max, int_div_euclid, div_ceil}
 use Rattle.std.proofs.lemmas.Int.{ints, clamps, unsigned_abs-mul}
 use borrow.Author.Differences.{up, down}
@@ -8,6 +8,7 @@ use Rattle.fixed_interval.specs.Whole.{floor_over, ceil_over, least_of_four, gre
 use Rattle.fixed_interval.proofs.Whole.{div-parts}
 use Rattle.fixed_interval.proofs.GridLaws.{least_product, greatest_product}
 
+-- ---- sums, differences, hulls, magnitudes
 pub sum_ordered : (x y x' y' : ℤ) → x ≤ℤ x' → y ≤ℤ y' → (x +ℤ y) ≤ℤ (x' +ℤ y')
 sum_ordered x y x' y' h k = omega (arith, ints)
 
@@ -79,9 +80,6 @@ unfolding greatest_of_four
 abs-greatest_of_four a b c d m p q r s = abs-greatest (int_max a b) (int_max c d) m (abs-greatest a b m p q) (abs-greatest c d m r s)
 
 -- a corner's magnitude is at most the product of the reaches
-pub abs-times : (x y : ℤ) (s t : ℕ) → unsigned_abs x ≤ s → unsigned_abs y ≤ t → unsigned_abs x * unsigned_abs y ≤ s * t
-abs-times x y s t h k = mul-le-mul h k
-
 pub abs_product : (x y : ℤ) (s t : ℕ) → unsigned_abs x ≤ s → unsigned_abs y ≤ t → unsigned_abs (x *ℤ y) ≤ s * t
 abs_product x y s t h k = rw (unsigned_abs-mul x y) (mul-le-mul h k)
 
@@ -154,6 +152,66 @@ quotient_ordered y z n h k = core (int_div_euclid y (pos n)) (int_div_euclid (ne
 
 pub reach-quotient : (y z : ℤ) (m n : ℕ) → 0 < n → unsigned_abs y ≤ m → unsigned_abs z ≤ m → max (unsigned_abs (floor_over y n)) (unsigned_abs (ceil_over z n)) ≤ div_ceil m n
 reach-quotient y z m n p h k = both_within (abs-floor_over y m n p h) (abs-ceil_over z m n p k)
+
+-- ---- a result in range has products in range
+-- each of the four lies between the least and the greatest
+record LiesBetween (low high z : ℤ) : Type 0 where
+  above : low ≤ℤ z
+  below : z ≤ℤ high
+
+four_between : (a b c d : ℤ) → (LiesBetween (least_of_four a b c d) (greatest_of_four a b c d) a) × (LiesBetween (least_of_four a b c d) (greatest_of_four a b c d) b) × (LiesBetween (least_of_four a b c d) (greatest_of_four a b c d) c) × (LiesBetween (least_of_four a b c d) (greatest_of_four a b c d) d)
+unfolding least_of_four greatest_of_four
+four_between a b c d = (first a b (int_min c d) (int_max c d), second a b (int_min c d) (int_max c d), third (int_min a b) (int_max a b) c d, fourth (int_min a b) (int_max a b) c d)
+  where
+    first : (x y z w : ℤ) → LiesBetween (int_min (int_min x y) z) (int_max (int_max x y) w) x
+    first x y z w = record { above = omega (arith, ints, clamps); below = omega (arith, ints, clamps) }
+
+    second : (x y z w : ℤ) → LiesBetween (int_min (int_min x y) z) (int_max (int_max x y) w) y
+    second x y z w = record { above = omega (arith, ints, clamps); below = omega (arith, ints, clamps) }
+
+    third : (z w x y : ℤ) → LiesBetween (int_min z (int_min x y)) (int_max w (int_max x y)) x
+    third z w x y = record { above = omega (arith, ints, clamps); below = omega (arith, ints, clamps) }
+
+    fourth : (z w x y : ℤ) → LiesBetween (int_min z (int_min x y)) (int_max w (int_max x y)) y
+    fourth z w x y = record { above = omega (arith, ints, clamps); below = omega (arith, ints, clamps) }
+
+floor_in_range : (z : ℤ) (m n : ℕ) → 0 < n → unsigned_abs (floor_over z n) ≤ m → neg_ℤ (pos (m * n)) ≤ℤ z
+floor_in_range z m n h k = core (int_div_euclid z (pos n)) k (div-parts z n h).0
+  where
+    core : (q : ℤ) → unsigned_abs q ≤ m → up q * n + down z ≤ down q * n + up z → neg_ℤ (pos (m * n)) ≤ℤ z
+    core q l d = let s : down q ≤ m + up q = omega (arith, ints) in omega (arith, ints, d, mul-le-mul_right n s)
+
+ceil_in_range : (z : ℤ) (m n : ℕ) → 0 < n → unsigned_abs (ceil_over z n) ≤ m → z ≤ℤ pos (m * n)
+ceil_in_range z m n h k = let f = floor_in_range (neg_ℤ z) m n h (omega (arith, ints)) in turned (m * n) f
+  where
+    turned : (k : ℕ) → neg_ℤ (pos k) ≤ℤ neg_ℤ z → z ≤ℤ pos k
+    turned k l = omega (arith, ints)
+
+factors_in_range : (x y low high : ℤ) (k : ℕ) → neg_ℤ (pos k) ≤ℤ low → high ≤ℤ pos k → LiesBetween low high (x *ℤ y) → unsigned_abs x * unsigned_abs y ≤ k
+factors_in_range x y low high k l u b = rw (← unsigned_abs-mul x y) (within (x *ℤ y) b)
+  where
+    within : (z : ℤ) → LiesBetween low high z → unsigned_abs z ≤ k
+    within z c = omega (arith, ints, c.above, c.below)
+
+max_times : (x x' y y' k : ℕ) → x * y ≤ k → x * y' ≤ k → x' * y ≤ k → x' * y' ≤ k → max x x' * max y y' ≤ k
+max_times x x' y y' k a b c d = elim (either x x') [ inl e ↦ rw e (inner x a b) | inr e ↦ rw e (inner x' c d) ]
+  where
+    either : (m n : ℕ) → (max m n ≡ m) ⊎ (max m n ≡ n)
+    either m n = by (nat_le m n) refl
+      where
+        by : (t : Bool) → nat_le m n ≡ t → (max m n ≡ m) ⊎ (max m n ≡ n)
+        by true e = inr (omega (arith, leb-true _ _ e))
+        by false e = inl (omega (arith, leb-false _ _ e))
+
+    inner : (z : ℕ) → z * y ≤ k → z * y' ≤ k → z * max y y' ≤ k
+    inner z p q = elim (either y y') [ inl e ↦ rw e p | inr e ↦ rw e q ]
+
+pub products_in_range : (a b : Ends) (m n : ℕ) → 0 < n → unsigned_abs (floor_over (least_product a b) n) ≤ m → unsigned_abs (ceil_over (greatest_product a b) n) ≤ m → reach a * reach b ≤ m * n
+products_in_range a b m n h k l =
+    let low = floor_in_range (least_product a b) m n h k in
+    let high = ceil_in_range (greatest_product a b) m n h l in
+    let c = four_between (a.lo *ℤ b.lo) (a.lo *ℤ b.hi) (a.hi *ℤ b.lo) (a.hi *ℤ b.hi) in
+    max_times _ _ _ _ _ (factors_in_range a.lo b.lo _ _ _ low high c.0) (factors_in_range a.lo b.hi _ _ _ low high c.1) (factors_in_range a.hi b.lo _ _ _ low high c.2) (factors_in_range a.hi b.hi _ _ _ low high c.3)
 
 -- ---- squares that keep the sign
 pub square_ordered : (x y : ℤ) → x ≤ℤ y → (x *ℤ pos (unsigned_abs x)) ≤ℤ (y *ℤ pos (unsigned_abs y))

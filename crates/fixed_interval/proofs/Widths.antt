@@ -1,18 +1,18 @@
 -- The size and the width of each operation's result, from those of its arguments.
-use Rattle.std.proofs.Common.{◌≡◌, ℕ, zero, suc, ◌+◌, ◌*◌, ◌^◌, ◌<◌, ◌≤◌, max, ℤ, pos, negsuc, neg_ℤ, ◌+ℤ◌, ◌-ℤ◌, ◌*ℤ◌, ◌≤ℤ◌, ◌<ℤ◌, unsigned_abs, arith, ap, sym, subst, ◌∙◌, refl, lit≤, le_trans, mul-le-mul, mul-le-mul_right, lt_of_mul-lt-mul_right}
+use Rattle.std.proofs.Common.{◌≡◌, ℕ, suc, ◌+◌, ◌*◌, ◌<◌, ◌≤◌, max, ℤ, pos, negsuc, neg_ℤ, ◌+ℤ◌, ◌*ℤ◌, ◌≤ℤ◌, unsigned_abs, arith, lit≤, le_trans, mul-le-mul, mul-le-mul_right, lt_of_mul-lt-mul_right}
 use Rattle.std.proofs.Math.IntN.{*ℤ_comm}
 use Rattle.std.specs.Int.{int_min, int_max, int_div_euclid, div_ceil}
 use Rattle.std.proofs.lemmas.Int.{ints, clamps}
-use borrow.Author.Differences.{up, down, at_most_in, same_in}
-use Rattle.fixed_interval.specs.Grid.{Ends, Range, UNIT, reach, grid_negated, grid_sum, grid_difference, grid_product, grid_divide_by, grid_hull, grid_magnitude, grid_signed_square, grid_root, grid_scale_units, grid_times_ratio}
+use borrow.Author.Differences.{up, down}
+use Rattle.fixed_interval.specs.Grid.{Ends, Range, reach, UNIT, grid_negated, grid_sum, grid_difference, grid_product, grid_divide_by, grid_hull, grid_magnitude, grid_signed_square, grid_root, grid_scale_units, grid_times_ratio}
 use Rattle.fixed_interval.specs.Bound.{Bound, AreBounded, IsBounded, IsBoundedRange, sum_bound, ratio_bound, product_bound, divide_bound, scale_bound, hull_bound, square_bound}
 use Rattle.fixed_interval.specs.Whole.{floor_over, ceil_over, least_of_four, greatest_of_four}
 use Rattle.fixed_interval.specs.Enclosure.{natural, whole_root, root_up}
-use Rattle.fixed_interval.proofs.Whole.{parts, div-parts}
+use Rattle.fixed_interval.proofs.Whole.{div-parts}
 use Rattle.fixed_interval.proofs.GridLaws.{least_product, greatest_product, units, grid_negated-is, grid_sum-is, grid_difference-is, grid_product-is, grid_divide_by-is, grid_hull-is, grid_magnitude-is, grid_signed_square-is, grid_scale_units-is, grid_times_ratio-is}
 use Rattle.fixed_interval.proofs.RootLaws.{grid_root-is, root_up_least, whole_root_next, whole_root_greatest}
-use Rattle.fixed_interval.proofs.Roots.{natural_mono, reach-roots, roots_of_ordered}
-use Rattle.fixed_interval.proofs.Sizes.{sum_ordered, reach-sum, difference_ordered, reach-difference, hull_ordered, reach-hull, magnitude_ordered, abs-magnitude_low, abs-magnitude_high, both_within, abs-least_product, abs-greatest_product, products_ordered, abs-scaled, scaled_ordered, div_ceil_covers, quotient_ordered, reach-quotient, square_ordered, abs-square}
+use Rattle.fixed_interval.proofs.Roots.{reach-roots, roots_of_ordered}
+use Rattle.fixed_interval.proofs.Sizes.{sum_ordered, reach-sum, difference_ordered, reach-difference, hull_ordered, reach-hull, magnitude_ordered, abs-magnitude_low, abs-magnitude_high, both_within, abs-least_product, abs-greatest_product, products_ordered, abs-scaled, scaled_ordered, div_ceil_covers, div_ceil_least, products_in_range, quotient_ordered, reach-quotient, square_ordered, abs-square}
 
 -- ---- quotients
 -- what is apart by k is, over n and rounded outward, apart by k over n rounded up, and one step more
@@ -118,6 +118,16 @@ module _ (a b : Ends) (s t : Bound) (h : IsBounded a s) (k : IsBounded b t) wher
 
 pub grid_times_ratio_bounded : (a : Ends) (r : Range) (s t : Bound) (n : ℕ) → 0 < n → IsBounded a s → IsBoundedRange r t → IsBounded (grid_times_ratio a r n) (ratio_bound s t n)
 grid_times_ratio_bounded a r s t n p h k = rw (grid_times_ratio-is a r n p) (ratio_bounded a (units r) s t h (record { ordered = k.ordered; size = k.size; width = k.width }) n p)
+
+-- a product over n is in range exactly where the greatest product is
+pub ratio_in_range : (a : Ends) (r : Range) (m n : ℕ) → 0 < n → reach (grid_times_ratio a r n) ≤ m → reach a * max (unsigned_abs r.lo) (unsigned_abs r.hi) ≤ m * n
+ratio_in_range a r m n p h = core (rw (grid_times_ratio-is a r n p) at h)
+  where
+    core : max (unsigned_abs (floor_over (least_product a (units r)) n)) (unsigned_abs (ceil_over (greatest_product a (units r)) n)) ≤ m → reach a * max (unsigned_abs r.lo) (unsigned_abs r.hi) ≤ m * n
+    core l = products_in_range a (units r) m n p (omega arith) (omega arith)
+
+pub ratio_stays_in_range : (a : Ends) (r : Range) (m n : ℕ) → 0 < n → reach a * max (unsigned_abs r.lo) (unsigned_abs r.hi) ≤ m * n → reach (grid_times_ratio a r n) ≤ m
+ratio_stays_in_range a r m n p h = rw (grid_times_ratio-is a r n p) (le_trans (reach-quotient (least_product a (units r)) (greatest_product a (units r)) _ n p (abs-least_product a (units r)) (abs-greatest_product a (units r))) (div_ceil_least _ n m p h))
 
 -- ---- operations on one
 pub grid_negated_bounded : (a : Ends) (s : Bound) → IsBounded a s → IsBounded (grid_negated a) s

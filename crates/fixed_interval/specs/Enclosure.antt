@@ -1,4 +1,5 @@
--- Enclosures: all numbers from one exact fraction to another, and the operations on them, exact.
+-- Enclosures: all numbers from one exact fraction to another, and the operations on them, exact, as interval arithmetic has them
+-- (R. E. Moore, Interval Analysis, 1966).
 -- The ends of an enclosure are in order where its maker keeps them so (`IsOrdered`).
 use Rattle.std.specs.Prelude.{ℕ, zero, suc, ◌*◌, ◌^◌, ℤ, pos, negsuc, nat_le, ◌==◌, ◌+◌, if◌then◌else◌}
 use Rattle.fixed_interval.specs.Fraction.{Fraction, ◌≤ᶠ◌, ◌<ᶠ◌, over, negate, plus, times, least, greatest, absolute, floor_at, ceil_at}

@@ -1,4 +1,5 @@
--- The grid: the multiples of 2^-56. Every operation has a form on the grid, which is its exact form rounded outward.
+-- The grid: the multiples of 2^-56. Every operation has a form on the grid, which is its exact form rounded outward
+-- (outward rounding, as in IEEE 1788-2015).
 use Rattle.std.specs.Prelude.{ℕ, ◌^◌, max, ℤ, unsigned_abs}
 use Rattle.fixed_interval.specs.Fraction.{over, floor_at, ceil_at}
 use Rattle.fixed_interval.specs.Enclosure.{Enclosure, negated, sum, difference, product, scale_units, divide_by, times_ratio, hull, magnitude, signed_square, root}

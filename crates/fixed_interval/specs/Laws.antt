@@ -1,7 +1,7 @@
 -- The laws of the operations, which series, values and tolerances rest on.
-use Rattle.std.specs.Prelude.{ℕ, suc, ◌+◌, ◌*◌, ◌<◌, ◌≤◌, ℤ, pos, ◌+ℤ◌, ◌≤ℤ◌}
+use Rattle.std.specs.Prelude.{ℕ, suc, ◌+◌, ◌*◌, ◌<◌, ◌≤◌, ◌↔◌, pos, ◌+ℤ◌, ◌≤ℤ◌, ◌<ℤ◌, max, unsigned_abs}
 use Rattle.fixed_interval.specs.Enclosure.{Enclosure, IsOrdered, LiesIn, IsAboveZero, IsBelowZero, negated, sum, difference, product, scale_units, divide_by, times_ratio, hull, magnitude, signed_square, root, natural}
-use Rattle.fixed_interval.specs.Grid.{Ends, Range, UNIT, DEPTH, enclosure_of, enclosure_of_range, rounded_out, grid_negated, grid_sum, grid_difference, grid_product, grid_scale_units, grid_divide_by, grid_times_ratio, grid_hull, grid_magnitude, grid_signed_square, grid_root}
+use Rattle.fixed_interval.specs.Grid.{Ends, Range, reach, UNIT, DEPTH, enclosure_of, enclosure_of_range, rounded_out, grid_negated, grid_sum, grid_difference, grid_product, grid_scale_units, grid_divide_by, grid_times_ratio, grid_hull, grid_magnitude, grid_signed_square, grid_root}
 use Rattle.fixed_interval.specs.Bound.{Bound, IsBounded, IsBoundedRange, sum_bound, ratio_bound, product_bound, divide_bound, scale_bound, hull_bound, square_bound}
 
 -- x lies in ends of the grid, or in a range of whole units
@@ -32,6 +32,11 @@ pub record LiesInIsAnOrder : Type 0 where
   pub below : (a b : Enclosure) → LiesIn a b → IsBelowZero b → IsBelowZero a
   pub above_only : (a b : Enclosure) → IsOrdered a → LiesIn a b → IsAboveZero b → ¬ IsBelowZero a
   pub below_only : (a b : Enclosure) → IsOrdered a → LiesIn a b → IsBelowZero b → ¬ IsAboveZero a
+
+-- ends of the grid have the sign of their nearer one
+pub record EndsShowTheSign : Type 0 where
+  pub above : (a : Ends) → IsAboveZero (enclosure_of a) ↔ (pos 0 <ℤ a.lo)
+  pub below : (a : Ends) → IsBelowZero (enclosure_of a) ↔ (a.hi <ℤ pos 0)
 
 -- rounding outward gives the least enclosure on the grid
 pub record RoundsToTheLeast : Type 0 where
@@ -113,3 +118,7 @@ pub record BoundsEachResult : Type 0 where
   pub of_signed_square : (a : Ends) (s : Bound) → IsBounded a s → IsBounded (grid_signed_square a) (square_bound s)
   -- a root is the narrower the farther from 0 its numbers are: c is at most the root of the lower end, and 0 will do
   pub of_root : (a : Ends) (s t : Bound) (c : ℕ) → IsBounded a s → c * c ≤ natural a.lo * UNIT → s.width * UNIT ≤ t.width * (2 * c + t.width) → s.size * UNIT ≤ t.size * t.size → IsBounded (grid_root a) (record { size = t.size; width = t.width + 1 })
+
+-- the condition of a product over n: it is within m exactly where the greatest product is within m n
+abbrev pub RatioIsInRange : Type 0
+RatioIsInRange = (a : Ends) (r : Range) (m n : ℕ) → 0 < n → (reach (grid_times_ratio a r n) ≤ m) ↔ (reach a * max (unsigned_abs r.lo) (unsigned_abs r.hi) ≤ m * n)

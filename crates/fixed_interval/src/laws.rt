@@ -1,9 +1,16 @@
 // The laws of the operations. Each is the contract of a function that does nothing.
-ghost use Rattle.fixed_interval.specs.Laws.{LiesInIsAnOrder, RoundsToTheLeast, KeepsLiesIn, GridKeepsLiesIn, GridHoldsExact, KeepsOrder, RootNests, BoundsEachResult};
+ghost use Rattle.fixed_interval.specs.Laws.{LiesInIsAnOrder, EndsShowTheSign, RoundsToTheLeast};
+ghost use Rattle.fixed_interval.specs.Laws.{KeepsLiesIn, GridKeepsLiesIn, GridHoldsExact, KeepsOrder};
+ghost use Rattle.fixed_interval.specs.Laws.{RootNests, BoundsEachResult, RatioIsInRange};
 
 /// To lie in is an order, and what lies in an enclosure with a sign has that sign and not the other.
 pub fn lies_in_is_an_order()
     ensures { LiesInIsAnOrder }
+{}
+
+/// Ends on the grid have a sign exactly where the one nearer to zero does.
+pub fn ends_show_the_sign()
+    ensures { EndsShowTheSign }
 {}
 
 /// Rounding outward gives the least enclosure on the grid.
@@ -39,4 +46,9 @@ pub fn roots_nest()
 /// How far each result reaches and how wide it is, from the same of the arguments.
 pub fn results_are_bounded()
     ensures { BoundsEachResult }
+{}
+
+/// The condition of `times_ratio` says that its result is in range, and no more.
+pub fn ratio_condition_is_exact()
+    ensures { RatioIsInRange }
 {}

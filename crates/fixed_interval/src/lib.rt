@@ -3,8 +3,10 @@
 #![tactic(auto)]
 
 ghost use Rattle.std.specs.Prelude.{ℕ, pos, ◌≡◌, ◌+◌, ◌^◌, ◌≤◌, ◌≤ℤ◌, ◌+ℤ◌, ◌-ℤ◌, ◌*◌, unsigned_abs, max};
-ghost use Rattle.fixed_interval.specs.Grid.{reach, UNIT, grid_sum, grid_difference, grid_product, grid_divide_by, grid_hull, grid_magnitude, grid_signed_square, grid_root, grid_scale_units, grid_times_ratio};
 ghost use Rattle.std.specs.Int.{div_ceil};
+ghost use Rattle.fixed_interval.specs.Grid.{reach, UNIT, grid_sum, grid_difference, grid_product, grid_divide_by};
+ghost use Rattle.fixed_interval.specs.Grid.{grid_hull, grid_magnitude, grid_signed_square, grid_root};
+ghost use Rattle.fixed_interval.specs.Grid.{grid_scale_units, grid_times_ratio};
 
 pub mod laws;
 mod steps;
@@ -13,10 +15,10 @@ mod tests;
 
 use steps::{
     ceil_quotient, ceil_to_grid, corner_products, exact_product, floor_quotient, floor_to_grid,
-    root_down, root_up, signed_square, squared_grid,
+    radicand, root_down, root_up, signed_square,
 };
 
-/// The numbers from `lo` / 2^56 to `hi` / 2^56.
+/// The numbers from `lo` / 2^56 to `hi` / 2^56: fixed-point interval arithmetic, every result rounded outward.
 /// `lo` is at most `hi`, and both magnitudes are at most 2^71.
 #[derive(Clone, Copy, Debug, PartialEq, Eq)]
 pub struct Interval {
@@ -126,14 +128,15 @@ impl Interval {
     }
 
     /// The square roots of the interval's numbers, where a negative number counts as 0. `hi` is at most 2^70.
+    /// The result reaches no further than any number whose square does.
     pub fn root(self) -> Interval
         requires { self.hi ≤ℤ pos (2 ^ 70) }
         ensures value { ends result ≡ grid_root (ends self) }
         ensures bound { (s : ℕ) → reach (ends self) * UNIT ≤ s * s → reach (ends result) ≤ s }
     {
         Interval {
-            lo: root_down(squared_grid(self.lo)),
-            hi: root_up(squared_grid(self.hi)),
+            lo: root_down(radicand(self.lo)),
+            hi: root_up(radicand(self.hi)),
         }
     }
 
@@ -144,7 +147,8 @@ impl Interval {
         ensures low { result.0 ≡ (grid_scale_units (ends self) (unsigned_abs units)).lo }
         ensures high { result.1 ≡ (grid_scale_units (ends self) (unsigned_abs units)).hi }
         ensures ordered { result.0 ≤ℤ result.1 }
-        ensures bound { max (unsigned_abs result.0) (unsigned_abs result.1) ≤ div_ceil (reach (ends self) * unsigned_abs units) UNIT }
+        ensures bound { max (unsigned_abs result.0) (unsigned_abs result.1)
+            ≤ div_ceil (reach (ends self) * unsigned_abs units) UNIT }
     {
         let units = units as i128;
         (
@@ -160,9 +164,13 @@ impl Interval {
         requires low_in_range { unsigned_abs low ≤ 2 ^ 44 }
         requires high_in_range { unsigned_abs high ≤ 2 ^ 44 }
         requires positive { 1 ≤ n }
-        requires result_in_range { reach (ends self) * max (unsigned_abs low) (unsigned_abs high) ≤ 2 ^ 71 * n }
+
+        // The greatest product, over n: so the ends of the result are within 2^71.
+        requires result_in_range { reach (ends self) * max (unsigned_abs low) (unsigned_abs high)
+            ≤ 2 ^ 71 * n }
         ensures value { ends result ≡ grid_times_ratio (ends self) (record { lo = low; hi = high }) n }
-        ensures bound { reach (ends result) ≤ div_ceil (reach (ends self) * max (unsigned_abs low) (unsigned_abs high)) n }
+        ensures bound { reach (ends result)
+            ≤ div_ceil (reach (ends self) * max (unsigned_abs low) (unsigned_abs high)) n }
     {
         let (least, greatest) = corner_products(self.lo, self.hi, low as i128, high as i128);
         Interval {

@@ -3,6 +3,7 @@ ghost use Rattle.std.specs.Prelude.{◌≡◌, ◌*◌, ◌^◌, ◌≤◌, pos,
 ghost use Rattle.fixed_interval.specs.Whole.{floor_over, ceil_over, least_of_four, greatest_of_four};
 ghost use Rattle.fixed_interval.specs.Enclosure.{natural, whole_root, root_up};
 
+/// A product that fits.
 pub fn exact_product(x: i128, y: i128) -> i128
     requires { unsigned_abs x * unsigned_abs y ≤ 2 ^ 126 }
     ensures { result ≡ x *ℤ y }
@@ -10,12 +11,14 @@ pub fn exact_product(x: i128, y: i128) -> i128
     x * y
 }
 
+/// The least of four numbers.
 fn least(a: i128, b: i128, c: i128, d: i128) -> i128
     ensures { result ≡ least_of_four a b c d }
 {
     a.min(b).min(c.min(d))
 }
 
+/// The greatest of four numbers.
 fn greatest(a: i128, b: i128, c: i128, d: i128) -> i128
     ensures { result ≡ greatest_of_four a b c d }
 {
@@ -69,7 +72,7 @@ pub fn ceil_quotient(x: i128, n: u64) -> i128
     -(-x).div_euclid(n as i128)
 }
 
-/// `x` times its absolute value.
+/// `x` times its absolute value, which fits.
 pub fn signed_square(x: i128) -> i128
     requires { unsigned_abs x * unsigned_abs x ≤ 2 ^ 126 }
     ensures { result ≡ x *ℤ pos (unsigned_abs x) }
@@ -77,8 +80,8 @@ pub fn signed_square(x: i128) -> i128
     x * x.abs()
 }
 
-/// A number of the grid, counted in 2^-112, where a negative one counts as 0.
-pub fn squared_grid(x: i128) -> u128
+/// What stands under the root of `x` / 2^56: a count of 2^-112, or 0 where `x` is negative.
+pub fn radicand(x: i128) -> u128
     requires { x ≤ℤ pos (2 ^ 70) }
     ensures { result ≡ natural x * 2 ^ 56 }
 {

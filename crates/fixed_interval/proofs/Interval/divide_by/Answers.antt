@@ -1,3 +1,4 @@
+-- Each end over n, rounded outward, is an end of the quotient on the grid.
 use Rattle.std.proofs.Common.{◌^◌, sym, ◌∙◌, refl, arith, le_trans}
 use Rattle.fixed_interval.specs.Interval.{ends}
 use Rattle.fixed_interval.proofs.Bits.{end_fits, end_fits_bits}

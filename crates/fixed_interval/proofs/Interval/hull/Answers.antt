@@ -1,3 +1,4 @@
+-- The lesser lower end and the greater upper end are the ends of the hull.
 use Rattle.std.proofs.Common.{◌^◌, sym, ◌∙◌}
 use Rattle.std.specs.Int.{int_min, int_max}
 use Rattle.fixed_interval.specs.Interval.{ends}

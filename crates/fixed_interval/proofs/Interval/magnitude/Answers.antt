@@ -1,3 +1,4 @@
+-- Three calls of `max` give the ends of the magnitude.
 use Rattle.std.proofs.Common.{◌^◌, sym, ◌∙◌, arith}
 use Rattle.fixed_interval.specs.Interval.{ends}
 use Rattle.fixed_interval.proofs.Bits.{magnitude_low, magnitude_high}

@@ -1,3 +1,4 @@
+-- Each end times the units, over 2^56 and rounded outward, is an end of the range.
 use Rattle.std.proofs.Common.{pos, ◌*ℤ◌, ◌*◌, unsigned_abs, sym, ◌∙◌, ap, arith, lit≤}
 use Rattle.fixed_interval.specs.Interval.{ends}
 use Rattle.fixed_interval.specs.Grid.{UNIT, Range, reach}

@@ -1,3 +1,4 @@
+-- Each end times its absolute value, rounded outward, is an end of the signed square.
 use Rattle.std.proofs.Common.{pos, ◌*ℤ◌, unsigned_abs, sym, ◌∙◌, arith, le_trans, lit≤}
 use Rattle.fixed_interval.specs.Interval.{ends}
 use Rattle.fixed_interval.specs.Grid.{UNIT}

@@ -1,3 +1,4 @@
+-- Ends within 2^71 lose nothing when added.
 use Rattle.std.proofs.Common.{sym, ◌∙◌}
 use Rattle.fixed_interval.specs.Interval.{ends}
 use Rattle.fixed_interval.proofs.Bits.{summed}

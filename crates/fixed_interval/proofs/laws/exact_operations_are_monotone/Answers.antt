@@ -1,3 +1,4 @@
+-- One lemma for each operation.
 use Rattle.fixed_interval.proofs.EnclosureLaws.{negated_mono, sum_mono, difference_mono, product_mono, scale_units_mono, divide_by_mono, times_ratio_mono, hull_mono, magnitude_mono, signed_square_mono, root_mono}
 use Rattle.fixed_interval.proofs.laws.exact_operations_are_monotone.Goals as goal
 

@@ -1,3 +1,4 @@
+-- One lemma for each operation.
 use Rattle.fixed_interval.proofs.Inclusion.{negated_holds, sum_holds, difference_holds, product_holds, scale_units_holds, divide_by_holds, times_ratio_holds, hull_holds, magnitude_holds, signed_square_holds, root_holds}
 use Rattle.fixed_interval.proofs.laws.grid_holds_exact.Goals as goal
 

@@ -1,3 +1,4 @@
+-- One lemma for each operation.
 use Rattle.fixed_interval.proofs.Inclusion.{grid_negated_mono, grid_sum_mono, grid_difference_mono, grid_product_mono, grid_scale_units_mono, grid_divide_by_mono, grid_times_ratio_mono, grid_hull_mono, grid_magnitude_mono, grid_signed_square_mono, grid_root_mono}
 use Rattle.fixed_interval.proofs.laws.grid_operations_are_monotone.Goals as goal
 

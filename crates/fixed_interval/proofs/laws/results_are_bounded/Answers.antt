@@ -1,3 +1,4 @@
+-- One lemma for each operation.
 use Rattle.fixed_interval.proofs.Widths.{grid_negated_bounded, grid_sum_bounded, grid_difference_bounded, grid_product_bounded, grid_scale_units_bounded, grid_divide_by_bounded, grid_times_ratio_bounded, grid_hull_bounded, grid_magnitude_bounded, grid_signed_square_bounded, grid_root_bounded}
 use Rattle.fixed_interval.proofs.laws.results_are_bounded.Goals as goal
 

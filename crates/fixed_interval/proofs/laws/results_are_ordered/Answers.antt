@@ -1,3 +1,4 @@
+-- One lemma for each operation.
 use Rattle.fixed_interval.proofs.EnclosureLaws.{negated_ordered, sum_ordered, difference_ordered, product_ordered, scale_units_ordered, divide_by_ordered, times_ratio_ordered, hull_ordered, magnitude_ordered, signed_square_ordered, root_ordered}
 use Rattle.fixed_interval.proofs.Inclusion.{rounded_out_ordered}
 use Rattle.fixed_interval.proofs.laws.results_are_ordered.Goals as goal

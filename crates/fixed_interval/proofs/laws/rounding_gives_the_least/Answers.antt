@@ -1,3 +1,4 @@
+-- The floor is the greatest number below, and the ceiling the least above.
 use Rattle.fixed_interval.proofs.EnclosureLaws.{LiesIn_refl}
 use Rattle.fixed_interval.proofs.Inclusion.{rounded_out_holds, rounded_out_least}
 use Rattle.fixed_interval.proofs.laws.rounding_gives_the_least.Goals as goal

@@ -1,3 +1,4 @@
+-- What `isqrt` ensures leaves one number: the root rounded down.
 use Rattle.std.proofs.Common.{pos, ap, sym, ◌∙◌, arith}
 use Rattle.fixed_interval.proofs.Bits.{read_natural}
 use Rattle.fixed_interval.proofs.RootLaws.{whole_root_unique}

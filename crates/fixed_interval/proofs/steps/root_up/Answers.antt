@@ -1,3 +1,4 @@
+-- The root is exact, or lies between the one rounded down and the next.
 use Rattle.std.proofs.Common.{pos, ap, sym, ◌∙◌, arith}
 use Rattle.fixed_interval.proofs.Bits.{read_natural, one_more}
 use Rattle.fixed_interval.proofs.RootLaws.{root_up-square, root_up-between}

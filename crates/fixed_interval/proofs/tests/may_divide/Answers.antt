@@ -1,3 +1,4 @@
+-- A quotient that is small when rounded up bounds what was divided.
 use Rattle.std.proofs.Common.{◌≡◌, ℕ, ◌*◌, ◌^◌, ◌<◌, ◌≤◌, leb-true, arith, mul-le-mul_right}
 use Rattle.std.specs.Int.{div_ceil}
 use Rattle.fixed_interval.proofs.Sizes.{div_ceil_covers}
