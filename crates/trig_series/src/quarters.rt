@@ -14,14 +14,17 @@ use crate::Angle;
 use crate::series::{cosine_series, negated, pi, sine_series};
 use fixed_interval::Interval;
 
-/// 45, 90 and 180 degrees, in angle units.
+/// 45 degrees, in angle units.
 const EIGHTH_TURN: i128 = 6_480_000_000_000;
 
+/// 90 degrees, in angle units.
 const QUARTER_TURN: i128 = 12_960_000_000_000;
 
+/// 180 degrees, in angle units.
 const HALF_TURN: u64 = 25_920_000_000_000;
 
 /// An enclosure of the sine of every angle of `a`, which is at most 360 degrees wide.
+/// It lies within 4/3, and is the hull of Taylor's series over the pieces of `a` between odd multiples of 45 degrees.
 pub fn sine(a: Angle) -> Interval
     requires { (a.hi -ℤ a.lo) ≤ℤ pos 51_840_000_000_000 }
     ensures value { ends result ≡ grid_sine (range_of a) }
@@ -31,6 +34,7 @@ pub fn sine(a: Angle) -> Interval
 }
 
 /// An enclosure of the cosine of every angle of `a`, which is at most 360 degrees wide.
+/// It lies within 4/3, and is the sine one quarter turn on.
 pub fn cosine(a: Angle) -> Interval
     requires { (a.hi -ℤ a.lo) ≤ℤ pos 51_840_000_000_000 }
     ensures value { ends result ≡ grid_cosine (range_of a) }

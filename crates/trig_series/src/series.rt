@@ -4,7 +4,7 @@ ghost use Rattle.std.specs.Prelude.{◌≡◌, ◌+◌, ◌*◌, ◌^◌, ◌≤
 ghost use Rattle.fixed_interval.specs.Grid.{UNIT, DEPTH, reach, grid_negated};
 ghost use Rattle.fixed_interval.specs.Interval.{ends};
 ghost use Rattle.trig_series.specs.Pi.{grid_pi};
-ghost use Rattle.trig_series.specs.Series.{divisor, next_grid_term, grid_term, grid_margin, grid_series, grid_sine_series, grid_cosine_series};
+ghost use Rattle.trig_series.specs.Series.{next_grid_term, grid_term, grid_margin, grid_series, grid_sine_series, grid_cosine_series};
 
 use fixed_interval::Interval;
 
@@ -14,7 +14,7 @@ const TERMS: u64 = 12;
 /// The number 1 on the grid.
 const ONE: i128 = 1 << 56;
 
-/// Pi by Machin's formula, rounded outward to the grid once.
+/// Pi by Machin's formula with 24 and 25 terms, rounded outward to the grid once.
 pub fn pi() -> Interval
     ensures { ends result ≡ grid_pi }
 {
