@@ -10,5 +10,5 @@ mod tests;
 mod words;
 
 pub use hints::State;
-pub use rule::{About, Fact, RisingFacts, Sight};
+pub use rule::{Fact, Sight};
 pub use words::{Bound, BoundSeat};

@@ -22,14 +22,14 @@ pub struct Sight<F> {
 
 /// What a bound is told once.
 #[derive(Drop)]
-pub struct About<F> {
+pub(crate) struct About<F> {
     /// How many words have ranks. One more stands behind them for the hints.
     pub count: u32,
     pub content: F,
 }
 
 /// Words that only rise, each a fact of the content.
-pub struct RisingFacts;
+pub(crate) struct RisingFacts;
 
 impl<F: Fact> TableRule<(), Sight<F>, About<F>> for RisingFacts {
     ghost holds = { Keeps F.fact };
