@@ -1,0 +1,45 @@
+use Rattle.std.proofs.Common.{List, rules, FitsSigned, sym, ap, ◌∙◌}
+use Rattle.std.specs.Int.{w64, w128}
+use Rattle.std.specs.List.{flat_map}
+use Rattle.std.proofs.lemmas.Int.{to_z-of_z}
+use Rattle.region.specs.Rings.{Polygon, polygon_edges, is_in_district}
+use Rattle.region.specs.Named.{corner, first_point}
+use Rattle.region.specs.Faults.{first_fault}
+use Rattle.region.specs.Views.{place_of, box_of}
+use Rattle.region.proofs.Wholly.{first_in, corner_ordered, in_district_alike}
+use Rattle.region.proofs.Sound.{sound}
+use Rattle.region.proofs.districts.District.meets.Goals as goal
+
+pub returns-in-Some-clause-some : goal.returns-in-Some-clause-some
+returns-in-Some-clause-some c =
+    let same = c.as_slice.ensures.value ∙ c.self.view_is in
+    first_in (box_of c.args.r) (place_of c.in-Some.p) c.args.self.now
+    (record { x_ordered = c.args.r.x_ordered; y_ordered = c.args.r.y_ordered })
+    (c.in-Some.ensures ∙ ap (λ (xs : List Polygon). first_point (box_of c.args.r) (flat_map polygon_edges xs)) same)
+
+pub returns-then-any_contains-clause-some : goal.returns-then-any_contains-clause-some
+returns-then-any_contains-clause-some c =
+    let x : FitsSigned w64 c.args.r.x0 = search rules in
+    let y : FitsSigned w64 c.args.r.y0 = search rules in
+    let x' : FitsSigned w128 c.args.r.x0 = search rules in
+    let y' : FitsSigned w128 c.args.r.y0 = search rules in
+    let same = c.as_slice-2.ensures.value ∙ c.self.view_is in
+    let here = simp to_z-of_z at c.if-any_contains.ensures in
+    simp to_z-of_z (
+      corner_ordered (box_of c.args.r) (record { x_ordered = c.args.r.x_ordered; y_ordered = c.args.r.y_ordered }),
+      sym (here ∙ ap (λ (xs : List Polygon). is_in_district (corner (box_of c.args.r)) xs) same),
+    )
+
+pub returns-else-any_contains-clause-none : goal.returns-else-any_contains-clause-none
+returns-else-any_contains-clause-none c = λ p i.
+    let x : FitsSigned w64 c.args.r.x0 = search rules in
+    let y : FitsSigned w64 c.args.r.y0 = search rules in
+    let x' : FitsSigned w128 c.args.r.x0 = search rules in
+    let y' : FitsSigned w128 c.args.r.y0 = search rules in
+    let same = c.as_slice.ensures.value ∙ c.self.view_is in
+    let same' = c.as_slice-2.ensures.value ∙ c.self.view_is in
+    let here = simp to_z-of_z at c.if-any_contains.ensures in
+    let none = c.in_default.ensures ∙ ap (λ (xs : List Polygon). first_point (box_of c.args.r) (flat_map polygon_edges xs)) same in
+    let closed = (sound c.args.self.now (ap first_fault (sym c.self.view_is) ∙ c.self.invariant.sound)).closed in
+    in_district_alike (box_of c.args.r) p c.args.self.now i closed (sym none)
+    ∙ sym (here ∙ ap (λ (xs : List Polygon). is_in_district (corner (box_of c.args.r)) xs) same')

@@ -1,0 +1,67 @@
+-- Polygons as lists of rings, rings as lists of positions (longitude, latitude) in microdegrees,
+-- and when a place is in them.
+use Rattle.std.specs.Prelude.{ℤ, pos, ℕ, ◌*ℤ◌, ◌%◌, ◌==◌, Bool, true, not, ◌&&◌, ◌||◌, if◌then◌else◌, List, [], ◌∷◌, count_by}
+use Rattle.std.specs.Ordering.{int_eq}
+use Rattle.std.specs.List.{list_any, flat_map}
+use Rattle.region.specs.Plane.{Place, Segment, is_on, crosses}
+
+-- a position; a ring; a polygon, its outer ring and its holes
+abbrev pub Position : Type 0
+Position = ℤ × ℤ
+
+abbrev pub Ring : Type 0
+Ring = List Position
+
+abbrev pub Polygon : Type 0
+Polygon = List Ring
+
+-- the last position of a ring that begins with p
+abbrev pub last_after : Position → Ring → Position
+last_after p [] = p
+last_after p (q ∷ rest) = last_after q rest
+
+-- the ring ends where it begins
+abbrev pub is_closed : Ring → Bool
+is_closed [] = true
+is_closed (p ∷ rest) = int_eq (last_after p rest).0 p.0 && int_eq (last_after p rest).1 p.1
+
+-- the edge between two positions, in place units
+abbrev pub edge_between : Position → Position → Segment
+edge_between p q = record {
+  xa = pos 128 *ℤ p.0;
+  ya = pos 128 *ℤ p.1;
+  xb = pos 128 *ℤ q.0;
+  yb = pos 128 *ℤ q.1;
+}
+
+-- the edges from each position to the next
+abbrev pub edges_from : Position → Ring → List Segment
+edges_from p [] = []
+edges_from p (q ∷ rest) = edge_between p q ∷ edges_from q rest
+
+abbrev pub ring_edges : Ring → List Segment
+ring_edges [] = []
+ring_edges (p ∷ rest) = edges_from p rest
+
+abbrev pub polygon_edges : Polygon → List Segment
+polygon_edges rings = flat_map ring_edges rings
+
+-- an odd count
+abbrev pub is_odd : ℕ → Bool
+is_odd n = (n % 2) == 1
+
+-- exactly one of two tests holds
+abbrev pub xor : Bool → Bool → Bool
+xor a b = if a then not b else b
+
+-- on one of the edges, or a ray to the east crosses an odd number of them
+abbrev pub is_within : Place → List Segment → Bool
+is_within p edges = list_any (is_on p) edges || is_odd (count_by (crosses p) edges)
+
+-- on an edge of some ring, or inside by the even-odd rule over all rings together
+abbrev pub is_in_polygon : Place → Polygon → Bool
+is_in_polygon p rings = is_within p (polygon_edges rings)
+
+-- in some polygon
+abbrev pub is_in_district : Place → List Polygon → Bool
+is_in_district p polygons = list_any (is_in_polygon p) polygons

@@ -1,0 +1,185 @@
+// Districts of polygons, and the places and boxes that meet them.
+ghost use Rattle.std.specs.Prelude.{◌≡◌, ℤ, List, length, slice_get, slice_index_or, [], ◌<◌, IsTrue, IsFalse, IfSome, IfNone, IfOk, IfErr, OnOk, ◌⊎◌, Some, None};
+ghost use Rattle.std.specs.List.{list_all};
+ghost use Rattle.std.specs.Option.{option_map};
+ghost use Rattle.region.specs.Plane.{Place, IsIn};
+ghost use Rattle.region.specs.Rings.{is_in_district};
+ghost use Rattle.region.specs.Named.{named};
+ghost use Rattle.region.specs.Extent.{longitudes, latitudes, positions_of, least, greatest, is_short};
+ghost use Rattle.region.specs.Faults.{first_fault, IsSurveyed};
+ghost use Rattle.region.specs.Vectors.{rings_in, polygons_in};
+ghost use Rattle.region.specs.Views.{place_of, box_of};
+
+use crate::faults::RegionFault;
+use crate::points::Point;
+use crate::polygons::{Polygon, any_contains, first_point};
+use crate::rects::Rect;
+use crate::rings::Ring;
+use crate::surveys::survey_of;
+use std::alloc::{AllocError, Global};
+use std::marker::Model;
+
+/// A district of polygons. A place is in a polygon if it lies on an edge of one of its rings, or if a
+/// ray from it to the east crosses the edges of all its rings together an odd number of times; it is
+/// in the district if it is in some polygon.
+///
+/// A clause sees a district as a list of polygons, each a list of rings, each a list of positions
+/// (longitude, latitude) in microdegrees.
+#[derive(Drop)]
+pub struct District {
+    polygons: Vec<Polygon>,
+    west: i64,
+    east: i64,
+    south: i64,
+    positions: u32,
+}
+
+impl Model for District {
+    ghost Value = { List (List (List (ℤ × ℤ))) };
+
+    ghost view = { λ d. d.polygons.items };
+
+    ghost invariant = { λ d. IsSurveyed d.polygons.items d.west d.east d.south d.positions };
+}
+
+// The rings, each with its one list of positions.
+fn ring_list(alloc: Global, rings: Vec<Vec<(i64, i64)>>) -> Result<Vec<Ring>, AllocError>
+    requires { IsTrue (list_all is_short (rings_in rings.items)) }
+    ensures { IfOk result (λ list. list.items ≡ rings_in rings.items) }
+{
+    let mut list = Vec::new(alloc);
+    for ring in rings {
+        list.push(Ring::new(ring))?;
+    }
+    Ok(list)
+}
+
+fn polygon_list(
+    alloc: Global,
+    polygons: Vec<Vec<Vec<(i64, i64)>>>,
+) -> Result<Vec<Polygon>, AllocError>
+    requires { IsTrue (list_all (list_all is_short) (polygons_in polygons.items)) }
+    ensures { IfOk result (λ list. list.items ≡ polygons_in polygons.items) }
+{
+    let mut list = Vec::new(alloc);
+    for rings in polygons {
+        list.push(Polygon::new(ring_list(alloc, rings)?))?;
+    }
+    Ok(list)
+}
+
+impl District {
+    /// The district of these polygons, each a list of rings, each a list of positions (longitude,
+    /// latitude) in microdegrees. The first fault, in this order: no polygon or ring, too many
+    /// positions, the first ring that is short or open, too far, too wide.
+    pub fn new(alloc: Global, polygons: Vec<Vec<Vec<(i64, i64)>>>) -> Result<District, RegionFault>
+        ensures ok { IfOk result (λ district. district ≡ polygons_in polygons.items) }
+        ensures sound { OnOk result (first_fault (polygons_in polygons.items) ≡ None) }
+        ensures fault { IfErr result (λ fault. (fault ≡ RegionFault.NoMemory) ⊎ (first_fault (polygons_in polygons.items) ≡ Some fault)) }
+    {
+        let survey = match survey_of(polygons.as_slice()) {
+            Ok(survey) => survey,
+            Err(fault) => return Err(fault),
+        };
+        let polygons = match polygon_list(alloc, polygons) {
+            Ok(list) => list,
+            Err(_) => return Err(RegionFault::NoMemory),
+        };
+        Ok(District {
+            polygons,
+            west: survey.west,
+            east: survey.east,
+            south: survey.south,
+            positions: survey.positions,
+        })
+    }
+
+    /// Whether the place is in the district.
+    pub fn contains(&self, p: Point) -> bool
+        ensures { result ≡ is_in_district (place_of p) self.now }
+    {
+        any_contains(self.polygons.as_slice(), &p)
+    }
+
+    /// The place that is named for the box: where the district's border first meets it, or else its
+    /// corner in the south-west, if that is in the district.
+    /// None exactly where no rational place of the box is in the district.
+    pub fn meets(&self, r: Rect) -> Option<Point>
+        ensures named { option_map place_of result ≡ named (box_of r) self.now }
+        ensures some { IfSome result (λ p. IsIn (box_of r) (place_of p) × IsTrue (is_in_district (place_of p) self.now)) }
+        ensures none { IfNone result ((p : Place) → IsIn (box_of r) p → IsFalse (is_in_district p self.now)) }
+    {
+        if let Some(p) = first_point(self.polygons.as_slice(), &r) {
+            return Some(p);
+        }
+        let corner = Point {
+            a: r.x0 as i128,
+            b: r.y0 as i128,
+            d: 1,
+        };
+        if any_contains(self.polygons.as_slice(), &corner) {
+            Some(corner)
+        } else {
+            None
+        }
+    }
+
+    /// The least longitude, in microdegrees.
+    pub fn west(&self) -> i64
+        ensures { result ≡ least (longitudes self.now) }
+    {
+        self.west
+    }
+
+    /// The greatest longitude, in microdegrees.
+    pub fn east(&self) -> i64
+        ensures { result ≡ greatest (longitudes self.now) }
+    {
+        self.east
+    }
+
+    /// The least latitude, in microdegrees.
+    pub fn south(&self) -> i64
+        ensures { result ≡ least (latitudes self.now) }
+    {
+        self.south
+    }
+
+    /// How many positions all rings have together.
+    pub fn positions(&self) -> u32
+        ensures { result ≡ length (positions_of self.now) }
+    {
+        self.positions
+    }
+
+    pub fn polygon_count(&self) -> usize
+        ensures { result ≡ length self.now }
+    {
+        self.polygons.len()
+    }
+
+    pub fn ring_count(&self, polygon: usize) -> usize
+        requires { polygon < length self.now }
+        ensures { result ≡ length (slice_index_or self.now polygon []) }
+    {
+        self.polygons[polygon].ring_count()
+    }
+
+    pub fn position_count(&self, polygon: usize, ring: usize) -> usize
+        requires polygon { polygon < length self.now }
+        requires ring { ring < length (slice_index_or self.now polygon []) }
+        ensures { result ≡ length (slice_index_or (slice_index_or self.now polygon []) ring []) }
+    {
+        self.polygons[polygon].ring(ring).len()
+    }
+
+    /// A position (longitude, latitude), in microdegrees.
+    pub fn position(&self, polygon: usize, ring: usize, i: usize) -> (i64, i64)
+        requires polygon { polygon < length self.now }
+        requires ring { ring < length (slice_index_or self.now polygon []) }
+        requires position { i < length (slice_index_or (slice_index_or self.now polygon []) ring []) }
+        ensures { slice_get (slice_index_or (slice_index_or self.now polygon []) ring []) i ≡ Some result }
+    {
+        self.polygons[polygon].ring(ring).position(i)
+    }
+}

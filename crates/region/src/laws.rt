@@ -1,0 +1,17 @@
+ghost use Rattle.region.specs.Laws.{IsWhollyInOrOut, NamesExactly, NamesNoneBeyond};
+
+/// A box that no edge of a polygon meets lies wholly inside the polygon or wholly outside it.
+pub fn wholly_in_or_out()
+    ensures { IsWhollyInOrOut }
+{}
+
+/// The place that is named for a box lies in the box and in the district, and where none is named
+/// no place of the box is in the district.
+pub fn names_exactly()
+    ensures { NamesExactly }
+{}
+
+/// An edge whose own closed box misses a box names no point for it and holds no place of it.
+pub fn names_none_beyond()
+    ensures { NamesNoneBeyond }
+{}

@@ -1,0 +1,31 @@
+// Districts of polygons over all their rational places, and boxes of places.
+// Contract: a place is in a district exactly by the even-odd rule, and a box is met exactly where one of its places is.
+#![tactic(auto)]
+
+mod bounds;
+#[cfg(test)]
+mod cases;
+mod counts;
+mod crossings;
+mod districts;
+mod edge_points;
+mod edges;
+mod exact;
+mod extents;
+mod faults;
+mod laws;
+mod points;
+mod polygons;
+mod rects;
+mod rings;
+mod surveys;
+#[cfg(test)]
+mod tests;
+mod touches;
+
+pub use districts::District;
+pub use edges::Edge;
+pub use faults::RegionFault;
+pub use laws::{names_exactly, names_none_beyond, wholly_in_or_out};
+pub use points::Point;
+pub use rects::Rect;
