@@ -1,0 +1,5 @@
+pub mod CellLemmas
+pub mod Every
+pub mod LeafLemmas
+pub mod SplitLemmas
+pub mod TreeLemmas

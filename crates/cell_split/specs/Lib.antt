@@ -1,0 +1,7 @@
+pub mod Cells
+pub mod Entries
+pub mod Judges
+pub mod Laws
+pub mod Split
+pub mod Tree
+pub mod Verdicts
