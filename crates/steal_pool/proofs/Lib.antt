@@ -1,0 +1,3 @@
+pub mod TreeFacts
+pub mod Collecting
+pub mod Harvesting

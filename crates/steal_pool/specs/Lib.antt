@@ -1,0 +1,4 @@
+pub mod Harvests
+pub mod Collected
+pub mod Samples
+pub mod SampleLaws

@@ -1,0 +1,11 @@
+// The search of a judge's trees: for each problem the greatest rank refuted, and the leaves above it.
+// Contract: a `Harvest` holds each leaf above the refuted rank of its problem exactly once.
+#![tactic(auto)]
+
+mod harvest;
+mod plain;
+#[cfg(test)]
+mod tests;
+
+pub use harvest::{Harvest, Leaves, Ranks};
+pub use plain::search_plain;

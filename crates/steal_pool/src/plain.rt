@@ -1,0 +1,101 @@
+// The search on one thread, from the first cell of a tree to the last.
+ghost use Rattle.std.specs.Prelude.{◌≡◌, ◌<◌, ◌++◌, ◌∷◌, [], ◌↔◌, true, IfOk, OnOk, IsTrue, if◌then◌else◌};
+ghost use Rattle.cell_split.specs.Judges.{IsTask};
+ghost use Rattle.cell_split.specs.Verdicts.{is_split, is_refuted};
+ghost use Rattle.cell_split.specs.Tree.{leaves};
+ghost use Rattle.cell_split.specs.Entries.{last_word};
+ghost use Rattle.steal_pool.specs.Harvests.{word_of, IsHarvest};
+ghost use Rattle.steal_pool.specs.Collected.{Collects};
+
+use crate::harvest::{Harvest, Leaves, Ranks};
+use cell_split::{Cell, Judge, Leaf, Task, children};
+use no_memory::NoMemory;
+use std::alloc::Global;
+
+/// Searches each problem's tree on this thread. It leaves out the cells whose last rank is at most
+/// the refuted rank that it knows, and takes memory for the leaves that it keeps alone.
+pub fn search_plain<J: Judge>(alloc: Global, judge: &J) -> Result<Harvest, NoMemory>
+    ensures { IfOk result (λ h. IsHarvest (J.content judge.now) h.refuted h.leaves) }
+{
+    let cell = judge.root();
+    let mut ranks = Vec::new(alloc);
+    let mut leaves = Vec::new(alloc);
+    for problem in 0..judge.problems() {
+        let mut refuted = None;
+        visit(judge, Task { problem, cell }, &mut refuted, &mut leaves)?;
+        ranks.push(refuted)?;
+    }
+    Ok(Harvest {
+        refuted: Ranks { ranks },
+        leaves: Leaves { leaves },
+    })
+}
+
+// Searches the tree below a task.
+#[cycle(visits)]
+fn visit<J: Judge>(
+    judge: &J,
+    task: Task,
+    refuted: &mut Option<u32>,
+    found: &mut Vec<Leaf>,
+) -> Result<(), NoMemory>
+    requires { IsTask (J.content judge.now) task }
+    ensures { OnOk result (Collects task.problem (leaves (J.content judge.now) task)
+        (word_of refuted.old) (word_of refuted.new) found.old.items found.new.items) }
+{
+    if is_spared(*refuted, &task.cell) {
+        return Ok(());
+    }
+    let verdict = judge.judge(task);
+    if verdict.splits() {
+        visit_children(judge, task, refuted, found)
+    } else {
+        keep(Leaf { task, verdict }, refuted, found)
+    }
+}
+
+// Searches the trees below the children of a task, the first child first.
+#[cycle(visits)]
+fn visit_children<J: Judge>(
+    judge: &J,
+    task: Task,
+    refuted: &mut Option<u32>,
+    found: &mut Vec<Leaf>,
+) -> Result<(), NoMemory>
+    requires task { IsTask (J.content judge.now) task }
+    requires split { is_split ((J.content judge.now).verdict task) ≡ true }
+    ensures { OnOk result (Collects task.problem (leaves (J.content judge.now) task)
+        (word_of refuted.old) (word_of refuted.new) found.old.items found.new.items) }
+{
+    let below = children(&task.cell);
+    for cell in &below.cells[..below.count as usize] {
+        let child = Task {
+            problem: task.problem,
+            cell: *cell,
+        };
+        visit(judge, child, refuted, found)?;
+    }
+    Ok(())
+}
+
+// Whether no leaf of the cell can be above the refuted rank.
+fn is_spared(refuted: Option<u32>, cell: &Cell) -> bool
+    ensures { IsTrue result ↔ (cell.now.last < word_of refuted) }
+{
+    match refuted {
+        Some(rank) => cell.last <= rank,
+        None => false,
+    }
+}
+
+// Keeps a leaf, which is above the refuted rank, and raises the rank where the leaf is refuted.
+fn keep(leaf: Leaf, refuted: &mut Option<u32>, found: &mut Vec<Leaf>) -> Result<(), NoMemory>
+    ensures found { OnOk result (found.new.items ≡ found.old.items ++ leaf ∷ []) }
+    ensures refuted { word_of refuted.new ≡ (if is_refuted leaf.verdict then last_word leaf else word_of refuted.old) }
+{
+    if leaf.verdict.refutes() {
+        *refuted = Some(leaf.task.cell.last);
+    }
+    found.push(leaf)?;
+    Ok(())
+}
