@@ -1,0 +1,7 @@
+use Rattle.std.proofs.Common.{◌≡◌, Some, take}
+use Rattle.exact_json.specs.Machine.{start, run_within}
+use Rattle.exact_json.specs.Seen.{seen_with}
+use Rattle.exact_json.proofs.reader.read.Given as goal
+
+abbrev pub invariant-loop-place : goal.invariant-loop-place
+invariant-loop-place l = run_within start (take l.place l.bytes) ≡ Some (seen_with l.machine l.next)

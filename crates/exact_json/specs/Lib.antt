@@ -1,0 +1,14 @@
+pub mod Ascii
+pub mod Decimals
+pub mod Digits
+pub mod Grammar
+pub mod Advance
+pub mod Read
+pub mod Seen
+pub mod Texts
+pub mod Limits
+pub mod Machine
+pub mod Pieces
+pub mod Within
+pub mod Tree
+pub mod View

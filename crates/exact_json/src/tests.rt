@@ -1,0 +1,84 @@
+use crate::reader::read;
+use crate::rows::rows;
+use crate::{Decimal, Json, JsonFault};
+use std::alloc::{AllocError, Global};
+use std::test::Fail;
+
+fn write_bytes(alloc: Global, out: &mut String, bytes: &[u8]) -> Result<(), AllocError> {
+    out.push('\'')?;
+    for b in bytes {
+        out.push_str(format!(in alloc; "{b:02x}")?.as_str())?;
+    }
+    out.push('\'')?;
+    Ok(())
+}
+
+fn write_decimal(alloc: Global, out: &mut String, decimal: &Decimal) -> Result<(), AllocError> {
+    if decimal.negative {
+        out.push('-')?;
+    }
+    for digit in decimal.digits.as_slice() {
+        out.push_str(format!(in alloc; "{digit}")?.as_str())?;
+    }
+    let exponent = decimal.exponent;
+    out.push_str(format!(in alloc; "e{exponent}")?.as_str())
+}
+
+/// `n`, `t`, `f`, a number's digits and exponent, a text's bytes in hexadecimal, and lists and tables of these.
+fn write_tree(alloc: Global, out: &mut String, value: &Json, depth: u8) -> Result<(), AllocError> {
+    if depth == 0 {
+        return out.push_str("too deep");
+    }
+    match value {
+        Json::Null => out.push_str("n"),
+        Json::Flag(true) => out.push_str("t"),
+        Json::Flag(false) => out.push_str("f"),
+        Json::Number(decimal) => write_decimal(alloc, out, decimal),
+        Json::Text(text) => write_bytes(alloc, out, text.text().as_bytes()),
+        Json::List(list) => {
+            out.push_str("[")?;
+            for i in 0..list.count() {
+                if i > 0 {
+                    out.push_str(",")?;
+                }
+                write_tree(alloc, out, list.item(i), depth - 1)?;
+            }
+            out.push_str("]")
+        }
+        Json::Table(table) => {
+            out.push_str("{")?;
+            for i in 0..table.count() {
+                if i > 0 {
+                    out.push_str(",")?;
+                }
+                write_bytes(alloc, out, table.name(i).text().as_bytes())?;
+                out.push_str(":")?;
+                write_tree(alloc, out, table.value(i), depth - 1)?;
+            }
+            out.push_str("}")
+        }
+    }
+}
+
+fn answer(alloc: Global, bytes: &[u8]) -> Result<String, AllocError> {
+    match read(alloc, bytes) {
+        Ok(value) => {
+            let mut out = String::new(alloc);
+            write_tree(alloc, &mut out, &value, 100)?;
+            Ok(out)
+        }
+        Err(JsonFault::NotJson(place)) => format!(in alloc; "1@{place}"),
+        Err(JsonFault::TooDeep(place)) => format!(in alloc; "2@{place}"),
+        Err(JsonFault::LongNumber(place)) => format!(in alloc; "3@{place}"),
+        Err(JsonFault::NoMemory) => String::from_str(alloc, "no memory"),
+    }
+}
+
+#[test]
+fn texts_and_faults(rt: HostRuntime) -> Result<(), Fail> {
+    for (bytes, want) in rows() {
+        let got = answer(rt.alloc(), bytes)?;
+        assert_eq!(rt; got.as_str(), *want, "at {bytes:?}");
+    }
+    Ok(())
+}
