@@ -1,0 +1,4 @@
+pub mod DateLemmas
+pub mod DayLemmas
+pub mod LineLemmas
+pub mod RuleLemmas

@@ -1,0 +1,18 @@
+// Zones, the offset of a day, and the lines of a table.
+// Contract: each text call gives exactly the bytes of its definition, and each offset is the rule's at civil noon.
+#![tactic(auto)]
+
+mod date;
+mod entry;
+mod head;
+mod offset;
+mod show;
+mod zone;
+
+pub use entry::{date_text, day_line, entry_text, open_line};
+pub use head::{SunChoice, end_line, sun_word, table_head};
+pub use offset::day_offset;
+pub use zone::{Rule, RuleFault, Zone, read_rule};
+
+#[cfg(test)]
+mod tests;
