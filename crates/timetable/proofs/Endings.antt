@@ -1,28 +1,42 @@
 -- How the pieces of a run make its answer.
 use Rattle.std.proofs.Common.{◌≡◌, ℕ, List, [], Option, Some, None, refl, sym, ap, ◌∙◌, append-nil, subst, arith, length, ◌∷◌, codes, bytes_eq, Bool, true, false, cond}
+use Rattle.std.proofs.lemmas.Int.{ints}
 use Rattle.std.proofs.lemmas.Slice.Eq.{bytes_eq-Decides}
+use Rattle.std.specs.Prelude.{ℤ}
 use Rattle.fixed_interval.specs.Grid.{Ends, Range}
 use Rattle.solar_terms.specs.Sun.{SunTerms, grid_sun}
 use Rattle.altitude_test.specs.Values.{Box, grid_altitude_value}
 use Rattle.source_sink.specs.Outside.{Rose, Adds, AddsSome, AddsPart}
 use Rattle.timetable.specs.Answer.{Answer, answer_of, sun_answer, sun_answer_to, sun_line, status_of, usage_answer, line_of, line_of_status}
-use Rattle.timetable.specs.Request.{request_in}
+use Rattle.timetable.specs.Request.{request_in, IsAsked, IsWithin}
 use Rattle.timetable.specs.Streams.{EndsAs}
-use Rattle.timetable.specs.Verdict.{point, place_of, angle_of, value_of, side_of, verdict_of}
+use Rattle.timetable.specs.Verdict.{point, place_of, angle_of, value_at, value_of, side_of, verdict_of}
 use Rattle.timetable.specs.declared.ending.Status.{Status}
 use Rattle.timetable.specs.declared.ending.Status.TheVariants.{Done, Usage, OrderRefused, ReadFault, WriteFault, NoMemory, CoverRefused}
 use Rattle.timetable.specs.declared.ending.Status.TheVariants.{Open as StatusOpen}
+use Rattle.timetable.specs.declared.request.Question.{Question}
+use Rattle.timetable.specs.declared.request.Question.TheVariants.{Altitude}
 use Rattle.timetable.specs.declared.request.Request.{Request}
 use Rattle.timetable.specs.declared.verdict.Verdict.{Verdict}
 use Rattle.timetable.specs.declared.verdict.Verdict.TheVariants.{Above, Below, Open}
 
--- the verdict is that of the enclosure over the one minute, the one place and the one angle
-pub verdict_is : (r : Request) (e : Ends) (s : SunTerms) (m : Range) (p : Box) (a : Range) →
-    e ≡ grid_altitude_value s m p a → s ≡ grid_sun m → m ≡ point r.minute → p ≡ place_of r.lon r.lat →
-    a ≡ angle_of r.angle → side_of e ≡ verdict_of r
+-- the verdict is that of the enclosure over the one minute and the one place
+pub verdict_is : (r : Request) (e : Ends) (m : Range) (p : Box) →
+    e ≡ value_at r.question m p → m ≡ point r.minute → p ≡ place_of r.lon r.lat → side_of e ≡ verdict_of r
 unfolding value_of verdict_of
-verdict_is r e s m p a is_value is_sun is_minute is_place is_angle =
-    rw (is_value, is_sun, is_minute, is_place, is_angle) refl
+verdict_is r e m p is_value is_minute is_place = rw (is_value, is_minute, is_place) refl
+
+-- the enclosure of an altitude over some minutes and places
+pub altitude_is : (q : Question) (angle : ℤ) (e : Ends) (s : SunTerms) (m : Range) (p : Box) (a : Range) → q ≡ Altitude angle →
+    e ≡ grid_altitude_value s m p a → s ≡ grid_sun m → a ≡ angle_of angle → e ≡ value_at q m p
+unfolding value_at
+altitude_is q angle e s m p a is_question is_value is_sun is_angle = rw (is_question, is_value, is_sun, is_angle) refl
+
+-- an angle that is asked for is within 30 degrees
+pub asked_within : (q : Question) (angle : ℤ) → q ≡ Altitude angle → IsAsked q → IsWithin 30_000_000 angle
+asked_within q angle is_question asked =
+    let range : IsAsked (Altitude angle) = subst IsAsked is_question asked in
+    record { low = omega (arith, ints, range.0); high = range.1 }
 
 -- a stream on which nothing was written
 pub adds_nothing : (held : Option (List ℕ)) → Adds held held []

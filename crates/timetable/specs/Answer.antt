@@ -1,5 +1,5 @@
 -- What the program answers to its words and its input: a status, a text for the output and a line for the error stream.
-use Rattle.std.specs.Prelude.{ℕ, Bool, false, if◌then◌else◌, MatchBool, List, [], ◌∷◌, ◌++◌, codes, bytes_eq, Option, Some, None, ◌≡◌}
+use Rattle.std.specs.Prelude.{ℕ, decimal, Bool, false, if◌then◌else◌, MatchBool, List, [], ◌∷◌, ◌++◌, codes, bytes_eq, Option, Some, None, ◌≡◌}
 use Rattle.std.specs.Fmt.{signed_decimal}
 use Rattle.timetable.specs.Decimals.{decimal_text}
 use Rattle.timetable.specs.Request.{request_in}
@@ -7,6 +7,8 @@ use Rattle.timetable.specs.Verdict.{verdict_of, word_of}
 use Rattle.timetable.specs.declared.ending.Status.{Status}
 use Rattle.timetable.specs.declared.ending.Status.TheVariants.{Done, Usage, ReadFault, WriteFault, NoMemory}
 use Rattle.timetable.specs.declared.ending.Status.TheVariants.{Open as StatusOpen, OrderRefused, CoverRefused}
+use Rattle.timetable.specs.declared.request.Question.{Question}
+use Rattle.timetable.specs.declared.request.Question.TheVariants.{Altitude, Meridian, Shadow}
 use Rattle.timetable.specs.declared.request.Request.{Request}
 use Rattle.timetable.specs.declared.verdict.Verdict.{Verdict}
 use Rattle.timetable.specs.declared.verdict.Verdict.TheVariants.{Above, Below, Open}
@@ -46,11 +48,16 @@ status_of Above = Done
 status_of Below = Done
 status_of Open = StatusOpen
 
+unfoldable pub question_text : Question → List ℕ
+question_text (Altitude angle) = codes "angle " ++ decimal_text angle
+question_text Meridian = codes "meridian"
+question_text (Shadow factor) = codes "asr " ++ decimal factor
+
 unfoldable pub sun_line : Request → Verdict → List ℕ
 sun_line r v =
     codes "minute " ++ (signed_decimal r.minute ++
     (codes " lon " ++ (decimal_text r.lon ++ (codes " lat " ++ (decimal_text r.lat ++
-    (codes " angle " ++ (decimal_text r.angle ++ (codes " " ++ (word_of v ++ codes "\n")))))))))
+    (codes " " ++ (question_text r.question ++ (codes " " ++ (word_of r.question v ++ codes "\n")))))))))
 
 abbrev pub sun_answer_to : Option Request → Answer
 sun_answer_to None = usage_answer

@@ -3,4 +3,5 @@ pub mod Request
 pub mod Answer
 pub mod Streams
 pub mod Verdict
+pub mod Truth
 pub mod Laws

@@ -1,8 +1,11 @@
--- The verdict on one place, one minute and one angle: on which side of zero the enclosure of the altitude value lies.
+-- The verdict on one question at one place and one minute: on which side of zero the enclosure of the value lies.
 use Rattle.std.specs.Prelude.{ℤ, pos, ◌*ℤ◌, int_lt, if◌then◌else◌, List, ℕ, codes}
 use Rattle.fixed_interval.specs.Grid.{Ends, Range}
 use Rattle.solar_terms.specs.Sun.{grid_sun}
-use Rattle.altitude_test.specs.Values.{Box, grid_altitude_value}
+use Rattle.altitude_test.specs.Values.{Box, grid_altitude_value, grid_meridian_value}
+use Rattle.asr_test.specs.Asr.{grid_asr_value}
+use Rattle.timetable.specs.declared.request.Question.{Question}
+use Rattle.timetable.specs.declared.request.Question.TheVariants.{Altitude, Meridian, Shadow}
 use Rattle.timetable.specs.declared.request.Request.{Request}
 use Rattle.timetable.specs.declared.verdict.Verdict.{Verdict}
 use Rattle.timetable.specs.declared.verdict.Verdict.TheVariants.{Above, Below, Open}
@@ -18,10 +21,15 @@ place_of lon lat = record { x = point (lon *ℤ pos 128); y = point (lat *ℤ po
 abbrev pub angle_of : ℤ → Range
 angle_of angle = point (angle *ℤ pos 144_000)
 
--- the enclosure of the altitude value: above zero where the sun is above the angle below the horizon
+-- the enclosure of the value that is asked for, over minutes and places: above zero where the sun is above the angle
+-- below the horizon, past the meridian, or so low that the shadow is longer than at Asr
+unfoldable pub value_at : Question → Range → Box → Ends
+value_at (Altitude angle) minutes places = grid_altitude_value (grid_sun minutes) minutes places (angle_of angle)
+value_at Meridian minutes places = grid_meridian_value (grid_sun minutes) minutes places
+value_at (Shadow factor) minutes places = grid_asr_value (grid_sun minutes) minutes places factor
+
 unfoldable pub value_of : Request → Ends
-value_of r =
-    grid_altitude_value (grid_sun (point r.minute)) (point r.minute) (place_of r.lon r.lat) (angle_of r.angle)
+value_of r = value_at r.question (point r.minute) (place_of r.lon r.lat)
 
 -- an enclosure that lies neither above zero nor below leaves the verdict open
 abbrev pub side_of : Ends → Verdict
@@ -30,7 +38,10 @@ side_of e = if int_lt (pos 0) e.lo then Above else (if int_lt e.hi (pos 0) then 
 unfoldable pub verdict_of : Request → Verdict
 verdict_of r = side_of (value_of r)
 
-abbrev pub word_of : Verdict → List ℕ
-word_of Above = codes "above"
-word_of Below = codes "below"
-word_of Open = codes "open"
+-- a value above zero is said as `above` of an angle, and as `after` of the meridian and of Asr
+abbrev pub word_of : Question → Verdict → List ℕ
+word_of (Altitude angle) Above = codes "above"
+word_of (Altitude angle) Below = codes "below"
+word_of question Open = codes "open"
+word_of question Above = codes "after"
+word_of question Below = codes "before"

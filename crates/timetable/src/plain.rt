@@ -1,7 +1,10 @@
 // The program on one thread.
-ghost use Rattle.std.specs.Prelude.{◌≡◌, ℕ, List, map, IsTrue, string_bytes};
+ghost use Rattle.std.specs.Prelude.{◌≡◌, ℕ, List, ◌∷◌, Some, codes, map, IsTrue, string_bytes};
 ghost use Rattle.timetable.specs.Answer.{answer_of, reads_input, IsInput, line_of, line_of_status};
+ghost use Rattle.timetable.specs.Request.{request_in};
 ghost use Rattle.timetable.specs.Streams.{EndsAs, Reports};
+ghost use Rattle.timetable.specs.Truth.{IsTrueOfSky};
+ghost use Rattle.timetable.specs.declared.request.Request.{Request};
 
 use crate::ending::Status;
 use crate::sun::answer_sun;
@@ -52,6 +55,10 @@ pub fn run_plain<S: Source, K: Sink, E: Sink>(
     ensures reports { (input : List ℕ) → IsInput (map string_bytes words.now) (S.left source.old) input →
         Reports (line_of (answer_of (map string_bytes words.now) input) result)
         (E.held err.old) (E.held err.new) (E.faults err.old) (E.faults err.new) }
+
+    // A verdict of `sun` is true of the sky at that place and minute.
+    ensures truth { (rest : List (List ℕ)) (r : Request) → map string_bytes words.now ≡ codes "sun" ∷ rest →
+        request_in rest ≡ Some r → IsTrueOfSky r }
 
     // Only a command that reads its source is ended by a read.
     ensures reads { result ≡ Status.ReadFault → IsTrue (reads_input (map string_bytes words.now)) }

@@ -1,11 +1,22 @@
 // The words of `sun MINUTE LON LAT WHAT`.
 ghost use Rattle.std.specs.Prelude.{◌≡◌, ◌≤◌, ℕ, map, pos, ◌≤ℤ◌, IfSome, Some, option_map, string_bytes};
 ghost use Rattle.timetable.specs.Decimals.{at_most, with_sign};
-ghost use Rattle.timetable.specs.Request.{minute_in, coordinate_in, angle_in, request_in, IsWithin, IsInRange};
+ghost use Rattle.timetable.specs.Request.{minute_in, coordinate_in, angle_in, question_in, request_in, IsWithin, IsAsked, IsInRange};
 
 use crate::decimals::{digits, millionths, signed, split_sign};
 
-/// One place, one minute and one angle.
+/// What is asked of the sun.
+#[derive(Clone, Copy, Debug, PartialEq, Eq)]
+pub(crate) enum Question {
+    /// Whether it is above an angle below the horizon, in millionths of a degree.
+    Altitude { angle: i64 },
+    /// Whether it is past the meridian.
+    Meridian,
+    /// Whether a shadow is longer than at Asr by this factor, 1 or 2, or the sun is below the horizon.
+    Shadow { factor: u8 },
+}
+
+/// One question at one place and one minute.
 #[derive(Clone, Copy, Debug, PartialEq, Eq)]
 pub(crate) struct Request {
     /// Minutes since 2000-01-01 12:00 Universal Time.
@@ -14,8 +25,7 @@ pub(crate) struct Request {
     pub lon: i64,
     /// Latitude in microdegrees.
     pub lat: i64,
-    /// Degrees below the horizon, in millionths.
-    pub angle: i64,
+    pub question: Question,
 }
 
 /// The number with its sign, where its magnitude is at most this.
@@ -67,6 +77,22 @@ fn read_angle(word: &str) -> Option<i64>
     }
 }
 
+#[tactic(auto, unfolding(crate::specs::Request::question_in))]
+fn read_question(word: &str) -> Option<Question>
+    ensures value { result ≡ question_in word.now }
+    ensures range { IfSome result IsAsked }
+{
+    match word {
+        "meridian" => Some(Question::Meridian),
+        "asr1" => Some(Question::Shadow { factor: 1 }),
+        "asr2" => Some(Question::Shadow { factor: 2 }),
+        _ => {
+            let angle = read_angle(word)?;
+            Some(Question::Altitude { angle })
+        }
+    }
+}
+
 /// What the words behind `sun` ask, if each is in its spelling and its range.
 #[tactic(auto, unfolding(crate::specs::Request::request_in))]
 pub(crate) fn read_request(words: &[String]) -> Option<Request>
@@ -78,12 +104,12 @@ pub(crate) fn read_request(words: &[String]) -> Option<Request>
             let minute = read_minute(first.as_str());
             let lon = read_coordinate(second.as_str(), 360_000_000);
             let lat = read_coordinate(third.as_str(), 65_000_000);
-            let angle = read_angle(fourth.as_str());
+            let question = read_question(fourth.as_str());
             Some(Request {
                 minute: minute?,
                 lon: lon?,
                 lat: lat?,
-                angle: angle?,
+                question: question?,
             })
         }
         _ => None,

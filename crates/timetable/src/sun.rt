@@ -1,14 +1,28 @@
 // The command `sun MINUTE LON LAT WHAT`.
 ghost use Rattle.std.specs.Prelude.{◌≡◌, map, IfOk, string_bytes};
-ghost use Rattle.timetable.specs.Answer.{sun_answer, sun_line, status_of};
+ghost use Rattle.timetable.specs.Answer.{question_text, sun_answer, sun_line, status_of};
 ghost use Rattle.timetable.specs.Streams.{EndsAs};
 
 use crate::decimals::decimal_string;
 use crate::ending::Status;
-use crate::request::{Request, read_request};
+use crate::request::{Question, Request, read_request};
 use crate::verdict::{Verdict, verdict_on};
 use source_sink::{Sink, write_all};
 use std::alloc::{AllocError, Global};
+
+#[tactic(auto, unfolding(crate::specs::Answer::question_text))]
+fn question_string(alloc: Global, question: Question) -> Result<String, AllocError>
+    ensures { IfOk result (λ text. string_bytes text ≡ question_text question) }
+{
+    match question {
+        Question::Altitude { angle } => {
+            let angle = decimal_string(alloc, angle)?;
+            format!(in alloc; "angle {angle}")
+        }
+        Question::Meridian => format!(in alloc; "meridian"),
+        Question::Shadow { factor } => format!(in alloc; "asr {factor}"),
+    }
+}
 
 /// The line with the request and its verdict.
 #[tactic(auto, unfolding(crate::specs::Answer::sun_line))]
@@ -18,9 +32,9 @@ fn line(alloc: Global, request: &Request, verdict: Verdict) -> Result<String, Al
     let minute = request.minute;
     let lon = decimal_string(alloc, request.lon)?;
     let lat = decimal_string(alloc, request.lat)?;
-    let angle = decimal_string(alloc, request.angle)?;
-    let word = verdict.word();
-    format!(in alloc; "minute {minute} lon {lon} lat {lat} angle {angle} {word}\n")
+    let question = question_string(alloc, request.question)?;
+    let word = verdict.word(request.question);
+    format!(in alloc; "minute {minute} lon {lon} lat {lat} {question} {word}\n")
 }
 
 fn status(verdict: Verdict) -> Status

@@ -1,20 +1,21 @@
-// The verdict on one place, one minute and one angle.
+// The verdict on one question at one place and one minute.
 ghost use Rattle.std.specs.Prelude.{◌≡◌, ◌≤◌, pos, ◌*ℤ◌, ◌≤ℤ◌};
 ghost use Rattle.fixed_interval.specs.Interval.{ends};
 ghost use Rattle.solar_terms.specs.Sun.{minutes_of};
 ghost use Rattle.trig_series.specs.Angle.{range_of};
 ghost use Rattle.altitude_test.specs.Values.{box_of};
-ghost use Rattle.timetable.specs.Request.{IsWithin, IsInRange};
-ghost use Rattle.timetable.specs.Verdict.{point, place_of, angle_of, side_of, verdict_of, word_of};
+ghost use Rattle.timetable.specs.Request.{IsWithin, IsAsked, IsInRange};
+ghost use Rattle.timetable.specs.Verdict.{point, place_of, angle_of, value_at, side_of, verdict_of, word_of};
 
-use crate::request::Request;
-use altitude_test::{Place, altitude_value};
+use crate::request::{Question, Request};
+use altitude_test::{Place, altitude_value, meridian_value};
+use asr_test::asr_value;
 use fixed_interval::Interval;
 use solar_terms::Minutes;
 use solar_terms::observatory::sun;
 use trig_series::Angle;
 
-/// Whether the sun is above an angle below the horizon.
+/// The side of zero on which a value lies.
 #[derive(Clone, Copy, Debug, PartialEq, Eq)]
 pub(crate) enum Verdict {
     Above,
@@ -24,14 +25,16 @@ pub(crate) enum Verdict {
 }
 
 impl Verdict {
-    /// The word that a line ends with.
-    pub(crate) fn word(self) -> &'static str
-        ensures { result.now ≡ word_of self }
+    /// The word with which a line on this question ends.
+    pub(crate) fn word(self, question: Question) -> &'static str
+        ensures { result.now ≡ word_of question self }
     {
-        match self {
-            Verdict::Above => "above",
-            Verdict::Below => "below",
-            Verdict::Open => "open",
+        match (question, self) {
+            (Question::Altitude { .. }, Verdict::Above) => "above",
+            (Question::Altitude { .. }, Verdict::Below) => "below",
+            (_, Verdict::Open) => "open",
+            (_, Verdict::Above) => "after",
+            (_, Verdict::Below) => "before",
         }
     }
 }
@@ -91,6 +94,20 @@ fn side(value: Interval) -> Verdict
     }
 }
 
+/// The enclosure of the value that is asked for, over the minutes and the places.
+#[tactic(auto, unfolding(crate::specs::Verdict::value_at))]
+fn value(question: Question, minutes: Minutes, places: Place) -> Interval
+    requires { IsAsked question }
+    ensures { ends result ≡ value_at question (minutes_of minutes) (box_of places) }
+{
+    let sun = sun(minutes);
+    match question {
+        Question::Altitude { angle } => altitude_value(&sun, minutes, places, one_angle(angle)),
+        Question::Meridian => meridian_value(&sun, minutes, places),
+        Question::Shadow { factor } => asr_value(&sun, minutes, places, factor),
+    }
+}
+
 /// The verdict on a request.
 #[tactic(auto, unfolding(crate::specs::Verdict::verdict_of, crate::specs::Verdict::value_of))]
 pub(crate) fn verdict_on(request: &Request) -> Verdict
@@ -99,6 +116,5 @@ pub(crate) fn verdict_on(request: &Request) -> Verdict
 {
     let minutes = one_minute(request.minute);
     let place = one_place(request.lon, request.lat);
-    let angle = one_angle(request.angle);
-    side(altitude_value(&sun(minutes), minutes, place, angle))
+    side(value(request.question, minutes, place))
 }

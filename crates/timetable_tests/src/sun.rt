@@ -76,9 +76,9 @@ fn wrong_words_get_the_usage_line(rt: HostRuntime) -> Result<(), Fail> {
         "sun 0 0 -65.000001 0",
         "sun 0 0 0 -1",
         "sun 0 0 0 30.000001",
-        "sun 0 0 0 meridian",
-        "sun 0 0 0 asr1",
-        "sun 0 0 0 asr2",
+        "sun 0 0 0 -meridian",
+        "sun 0 0 0 asr",
+        "sun 0 0 0 asr3",
     ] {
         expect(&rt, words, Status::Usage, "", USAGE)?;
     }
@@ -112,6 +112,26 @@ fn right_words_get_a_line(rt: HostRuntime) -> Result<(), Fail> {
         (
             "sun 208 -0.1 65.0 29.999999",
             "minute 208 lon -0.100000 lat 65.000000 angle 29.999999 above\n",
+        ),
+        (
+            "sun 0 0 0 meridian",
+            "minute 0 lon 0.000000 lat 0.000000 meridian before\n",
+        ),
+        (
+            "sun 0 1 0 meridian",
+            "minute 0 lon 1.000000 lat 0.000000 meridian after\n",
+        ),
+        (
+            "sun 208 0.1 0 asr1",
+            "minute 208 lon 0.100000 lat 0.000000 asr 1 before\n",
+        ),
+        (
+            "sun 209 0.1 0 asr1",
+            "minute 209 lon 0.100000 lat 0.000000 asr 1 after\n",
+        ),
+        (
+            "sun 270 0.1 0 asr2",
+            "minute 270 lon 0.100000 lat 0.000000 asr 2 after\n",
         ),
     ] {
         expect(&rt, words, Status::Done, line, "")?;

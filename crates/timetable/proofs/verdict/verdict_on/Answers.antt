@@ -1,5 +1,5 @@
 use Rattle.std.proofs.Common.{FitsSigned, w64, ◌∙◌, arith}
-use Rattle.std.proofs.lemmas.Int.{ints, to_z-of_z}
+use Rattle.std.proofs.lemmas.Int.{to_z-of_z}
 use Rattle.timetable.proofs.Digits.{fits_within}
 use Rattle.timetable.proofs.Endings.{verdict_is}
 use Rattle.timetable.proofs.verdict.verdict_on.Goals as goal
@@ -10,10 +10,6 @@ returns c =
     let minute_fits : FitsSigned w64 c.args.request.now.minute = fits_within 53_200_000 r.minute (omega arith) c.requires.minute in
     let lon_fits : FitsSigned w64 c.args.request.now.lon = fits_within 360_000_000 r.lon (omega arith) c.requires.lon in
     let lat_fits : FitsSigned w64 c.args.request.now.lat = fits_within 65_000_000 r.lat (omega arith) c.requires.lat in
-    let angle_fits : FitsSigned w64 c.args.request.now.angle =
-    fits_within 30_000_000 r.angle (omega arith)
-    (record { low = omega (arith, ints, c.requires.angle_low); high = c.requires.angle_high }) in
     let minute = simp to_z-of_z at c.one_minute-minutes.ensures in
     let place = simp to_z-of_z at c.one_place-place.ensures in
-    let angle = simp to_z-of_z at c.one_angle-angle.ensures.value in
-    c.side.ensures ∙ verdict_is r _ _ _ _ _ c.altitude_value.ensures c.sun.ensures minute place angle
+    c.side.ensures ∙ verdict_is r _ _ _ c.value.ensures minute place

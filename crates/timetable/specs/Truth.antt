@@ -1,0 +1,28 @@
+-- What a verdict says of the sky: at that place and minute the exact value that was asked for lies on that side of zero.
+use Rattle.std.specs.Prelude.{◌≡◌, ℕ, ℤ, pos, ◌*ℤ◌}
+use Rattle.fixed_interval.specs.Fraction.{over}
+use Rattle.fixed_interval.specs.Enclosure.{Enclosure}
+use Rattle.fixed_interval.specs.Grid.{enclosure_of_range}
+use Rattle.solar_terms.specs.Sun.{exact_sun}
+use Rattle.altitude_test.specs.Conditions.{Spot, IsAbove, IsBelow, altitude_at, meridian_at}
+use Rattle.asr_test.specs.AsrLaws.{asr_at}
+use Rattle.timetable.specs.Verdict.{angle_of, verdict_of}
+use Rattle.timetable.specs.declared.request.Question.{Question}
+use Rattle.timetable.specs.declared.request.Question.TheVariants.{Altitude, Meridian, Shadow}
+use Rattle.timetable.specs.declared.request.Request.{Request}
+use Rattle.timetable.specs.declared.verdict.Verdict.TheVariants.{Above, Below}
+
+-- the place of a request, in place units
+unfoldable pub spot_of : Request → Spot
+spot_of r = record { x = over (r.lon *ℤ pos 128) 1; y = over (r.lat *ℤ pos 128) 1 }
+
+-- the value that is asked for at one place and minute, enclosed at every depth
+unfoldable pub asked_at : Question → ℤ → Spot → ℕ → Enclosure
+asked_at (Altitude angle) k p = altitude_at exact_sun k p (enclosure_of_range (angle_of angle))
+asked_at Meridian k p = meridian_at exact_sun k p
+asked_at (Shadow factor) k p = asr_at exact_sun k p factor
+
+-- where the verdict is above, the value is above zero there, and where it is below, below
+pub record IsTrueOfSky (r : Request) : Type 0 where
+  pub above : verdict_of r ≡ Above → IsAbove (asked_at r.question r.minute (spot_of r))
+  pub below : verdict_of r ≡ Below → IsBelow (asked_at r.question r.minute (spot_of r))
