@@ -1,13 +1,13 @@
 -- The values over less of the sky, at a greater depth, and on the grid: each law follows from those of the operations.
-use Rattle.std.proofs.Common.{ℕ, suc, ◌≤◌}
-use Rattle.fixed_interval.specs.Enclosure.{Enclosure, IsOrdered, LiesIn, sum, difference, product, scale_units}
+use Rattle.std.proofs.Common.{ℕ, ◌≤◌}
+use Rattle.fixed_interval.specs.Enclosure.{Enclosure, IsOrdered, LiesIn, sum, difference, product}
 use Rattle.fixed_interval.specs.Grid.{Ends, Range, enclosure_of, enclosure_of_range, DEPTH, grid_sum, grid_difference, grid_product}
-use Rattle.fixed_interval.proofs.EnclosureLaws.{LiesIn_refl, sum_mono, difference_mono, product_mono, scale_units_mono, sum_ordered, difference_ordered, product_ordered, scale_units_ordered}
+use Rattle.fixed_interval.proofs.EnclosureLaws.{sum_mono, difference_mono, product_mono, scale_units_mono, sum_ordered, difference_ordered, product_ordered, scale_units_ordered}
 use Rattle.fixed_interval.proofs.Inclusion.{sum_holds, difference_holds, product_holds}
-use Rattle.trig_series.specs.Sine.{sine, cosine, grid_sine, grid_cosine}
+use Rattle.trig_series.specs.Sine.{sine, cosine}
 use Rattle.trig_series.proofs.SineLaws.{sine_ordered, cosine_ordered, sine_holds, cosine_holds}
 use Rattle.solar_terms.specs.Sun.{ExactSun, SunTerms}
-use Rattle.solar_terms.specs.SunLaws.{SunIsOrdered, SunLiesIn, exact_terms}
+use Rattle.solar_terms.specs.SunLaws.{exact_terms}
 use Rattle.solar_terms.proofs.Narrowing.{sine_narrows, cosine_narrows}
 use Rattle.solar_terms.proofs.RangeLaws.{added_holds, scaled_holds}
 use Rattle.altitude_test.specs.Values.{ExactBox, Box, latitude, sidereal_time, exact_altitude_sine, exact_altitude_value, exact_meridian_value, grid_latitude, grid_sidereal_time, grid_altitude_sine, grid_altitude_value, grid_meridian_value}

@@ -1,7 +1,7 @@
 -- Each condition has one side, and the grid shows it.
-use Rattle.std.proofs.Common.{ℕ, suc, ◌≤◌, max, ℤ, pos, ◌≤ℤ◌, ◌<ℤ◌, arith}
+use Rattle.std.proofs.Common.{ℕ, suc, max, ℤ, pos, ◌≤ℤ◌, ◌<ℤ◌, arith}
 use Rattle.std.proofs.lemmas.Int.{ints}
-use Rattle.fixed_interval.specs.Fraction.{Fraction, over, ◌≤ᶠ◌}
+use Rattle.fixed_interval.specs.Fraction.{over}
 use Rattle.fixed_interval.specs.Enclosure.{Enclosure, IsOrdered, LiesIn, IsAboveZero, IsBelowZero, point}
 use Rattle.fixed_interval.specs.Grid.{Ends, Range, DEPTH, enclosure_of, enclosure_of_range}
 use Rattle.fixed_interval.proofs.FractionLaws.{over_mono}
@@ -10,9 +10,9 @@ use Rattle.trig_series.proofs.SineLaws.{sine_ordered}
 use Rattle.solar_terms.specs.Sun.{SunTerms}
 use Rattle.solar_terms.specs.SunLaws.{SunSource, IsSunSource, GridHoldsSun, exact_terms}
 use Rattle.solar_terms.proofs.Narrowing.{Narrows, lies_deeper}
-use Rattle.altitude_test.specs.Values.{ExactBox, Box, exact_altitude_sine, exact_altitude_value, exact_meridian_value, grid_altitude_value, grid_meridian_value}
+use Rattle.altitude_test.specs.Values.{Box, exact_altitude_value, exact_meridian_value}
 use Rattle.altitude_test.specs.ValueLaws.{exact_box, IsPartOf}
-use Rattle.altitude_test.specs.Conditions.{AtSomeDepth, Spot, box_at, minute_at, IsAbove, IsBelow, altitude_at, meridian_at}
+use Rattle.altitude_test.specs.Conditions.{Spot, box_at, minute_at, altitude_at, meridian_at}
 use Rattle.altitude_test.specs.Verdicts.{IsAmong, IsOneSided, ShowsSide, AltitudeIsOneSided, MeridianIsOneSided, GridShowsAltitude, GridShowsMeridian}
 use Rattle.altitude_test.proofs.ValueLaws.{altitude_sine_ordered, altitude_narrows, meridian_narrows, grid_altitude_holds, grid_meridian_holds}
 

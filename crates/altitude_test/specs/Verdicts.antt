@@ -1,7 +1,7 @@
 -- What the grid shows of the conditions, as sentences. They hold for every sun that is a source.
 use Rattle.std.specs.Prelude.{ℕ, ℤ, pos, ◌≤ℤ◌, ◌<ℤ◌}
 use Rattle.fixed_interval.specs.Enclosure.{Enclosure, IsOrdered, LiesIn, point}
-use Rattle.fixed_interval.specs.Grid.{Ends, Range, enclosure_of, enclosure_of_range}
+use Rattle.fixed_interval.specs.Grid.{Ends, Range, enclosure_of_range}
 use Rattle.solar_terms.specs.Sun.{SunTerms}
 use Rattle.solar_terms.specs.SunLaws.{SunSource, IsSunSource, GridHoldsSun}
 use Rattle.altitude_test.specs.Values.{Box, grid_altitude_value, grid_meridian_value}

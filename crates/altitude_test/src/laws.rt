@@ -1,5 +1,6 @@
 // What is true of the values, each law the contract of a function that does nothing.
 ghost use Rattle.altitude_test.specs.ValueLaws.{AltitudeNarrows, MeridianNarrows, GridAltitudeHolds, GridMeridianHolds};
+ghost use Rattle.altitude_test.specs.Tolerance.{AltitudeIsClose, MeridianIsClose, OpenAltitudeIsNear, OpenMeridianIsNear};
 ghost use Rattle.altitude_test.specs.Verdicts.{AltitudeIsOneSided, MeridianIsOneSided, GridShowsAltitude, GridShowsMeridian};
 
 /// Over less of the sky or at a greater depth the exact values lie in what they were before.
@@ -24,4 +25,16 @@ pub fn values_are_one_sided()
 pub fn grid_shows_side()
     ensures altitude { GridShowsAltitude }
     ensures meridian { GridShowsMeridian }
+{}
+
+/// Over one minute and a box of 16 place units each way the values on the grid are at most 2^-24 wide.
+pub fn values_are_close()
+    ensures altitude { AltitudeIsClose }
+    ensures meridian { MeridianIsClose }
+{}
+
+/// There, ends on both sides of zero show that the value is within 2^-24 of zero.
+pub fn open_values_are_near()
+    ensures altitude { OpenAltitudeIsNear }
+    ensures meridian { OpenMeridianIsNear }
 {}

@@ -1,8 +1,8 @@
 -- The Asr value over less of the sky, at a greater depth, and on the grid: each law follows from those of the operations.
-use Rattle.std.proofs.Common.{ℕ, suc, ◌≤◌, Bool, true, false, ◌==◌, if◌then◌else◌, ℤ, pos, ◌≤ℤ◌, arith}
+use Rattle.std.proofs.Common.{ℕ, suc, ◌≤◌, Bool, true, false, ◌==◌, if◌then◌else◌, ℤ, arith}
 use Rattle.std.proofs.lemmas.Int.{ints}
 use Rattle.fixed_interval.specs.Fraction.{over}
-use Rattle.fixed_interval.specs.Enclosure.{Enclosure, IsOrdered, LiesIn, sum, difference, product, magnitude, signed_square, root}
+use Rattle.fixed_interval.specs.Enclosure.{Enclosure, IsOrdered, LiesIn, sum, difference, product, signed_square, root}
 use Rattle.fixed_interval.specs.Grid.{Ends, Range, DEPTH, enclosure_of, enclosure_of_range, grid_sum}
 use Rattle.fixed_interval.proofs.EnclosureLaws.{LiesIn_refl, LiesIn_trans, sum_mono, sum_ordered, difference_mono, difference_ordered, product_mono, product_ordered, magnitude_mono, magnitude_ordered, signed_square_mono, signed_square_ordered, root_mono, root_ordered, root_nested}
 use Rattle.fixed_interval.proofs.Inclusion.{sum_holds, difference_holds, product_holds, magnitude_holds, signed_square_holds, root_holds}
@@ -10,12 +10,12 @@ use Rattle.trig_series.specs.Sine.{sine, cosine, grid_sine, grid_cosine}
 use Rattle.trig_series.proofs.SineLaws.{sine_ordered, cosine_ordered, sine_holds, cosine_holds}
 use Rattle.solar_terms.specs.Ranges.{whole, exactly}
 use Rattle.solar_terms.specs.Sun.{ExactSun, SunTerms}
-use Rattle.solar_terms.specs.SunLaws.{SunSource, IsSunSource, GridHoldsSun, exact_terms}
+use Rattle.solar_terms.specs.SunLaws.{SunSource, IsSunSource, exact_terms}
 use Rattle.solar_terms.proofs.Narrowing.{Narrows, lies_deeper}
 use Rattle.solar_terms.proofs.RangeLaws.{exactly_ordered}
-use Rattle.altitude_test.specs.Values.{ExactBox, Box, latitude, exact_altitude_sine, grid_latitude, grid_altitude_sine}
+use Rattle.altitude_test.specs.Values.{ExactBox, Box, latitude, grid_latitude}
 use Rattle.altitude_test.specs.ValueLaws.{IsPartOf, exact_box}
-use Rattle.altitude_test.specs.Conditions.{Spot, minute_at, box_at}
+use Rattle.altitude_test.specs.Conditions.{Spot}
 use Rattle.altitude_test.proofs.ValueLaws.{latitude_ordered, latitude_holds, latitude_sine_narrows, latitude_cosine_narrows, altitude_sine_ordered, altitude_sine_narrows, altitude_sine_holds}
 use Rattle.altitude_test.proofs.Verdicts.{one_sided_value, shown_side, deeper_part, among_part}
 use Rattle.asr_test.specs.Asr.{sine_declination, cosine_declination, noon_cosine, noon_sine, times_factor, asr_shadow, exact_asr_value, grid_one, grid_sine_declination, grid_cosine_declination, grid_noon_cosine, grid_noon_sine, grid_times_factor, grid_asr_shadow, grid_asr_value}

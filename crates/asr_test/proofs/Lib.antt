@@ -1,1 +1,2 @@
 pub mod AsrLaws
+pub mod Tolerance

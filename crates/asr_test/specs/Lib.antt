@@ -1,2 +1,3 @@
 pub mod Asr
 pub mod AsrLaws
+pub mod Tolerance

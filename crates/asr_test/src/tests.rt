@@ -115,9 +115,14 @@ fn minutes(rt: &impl Abort, (first, last): (i64, i64)) -> Minutes {
 }
 
 fn place(rt: &impl Abort, (x0, x1, y0, y1): (i64, i64, i64, i64)) -> Place {
-    assert!(rt; -47_000_000_000 <= x0 && x0 <= x1 && x1 <= 47_000_000_000);
-    assert!(rt; -8_900_000_000 <= y0 && y0 <= y1 && y1 <= 8_900_000_000);
-    assert!(rt; x1 - x0 <= 536_870_912 && y1 - y0 <= 536_870_912);
+    assert!(rt; -47_000_000_000 <= x0);
+    assert!(rt; x0 <= x1);
+    assert!(rt; x1 <= 47_000_000_000);
+    assert!(rt; -8_900_000_000 <= y0);
+    assert!(rt; y0 <= y1);
+    assert!(rt; y1 <= 8_900_000_000);
+    assert!(rt; x1 - x0 <= 536_870_912);
+    assert!(rt; y1 - y0 <= 536_870_912);
     Place::new(x0, x1, y0, y1)
 }
 

@@ -3,3 +3,4 @@ pub mod RangeLaws
 pub mod Sizes
 pub mod Narrowing
 pub mod SunLaws
+pub mod SunWidths

@@ -1,3 +1,4 @@
 pub mod Ranges
 pub mod Sun
 pub mod SunLaws
+pub mod SunWidths

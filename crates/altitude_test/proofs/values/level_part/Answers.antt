@@ -1,6 +1,5 @@
 use Rattle.std.proofs.Common.{◌*◌, ◌/◌, arith}
-use Rattle.fixed_interval.specs.Grid.{UNIT, reach}
-use Rattle.fixed_interval.specs.Interval.{ends}
+use Rattle.fixed_interval.specs.Grid.{UNIT}
 use Rattle.solar_terms.proofs.Sizes.{product_at_most}
 use Rattle.altitude_test.proofs.values.level_part.Goals as goal
 

@@ -1,5 +1,4 @@
 use Rattle.std.proofs.Common.{◌*◌, ◌/◌, arith}
-use Rattle.std.proofs.lemmas.Int.{ints}
 use Rattle.fixed_interval.specs.Grid.{UNIT, reach}
 use Rattle.fixed_interval.specs.Interval.{ends}
 use Rattle.solar_terms.proofs.Sizes.{product_fits, product_at_most}
