@@ -1,4 +1,5 @@
 pub mod Digits
 pub mod Endings
 pub mod LawLemmas
+pub mod RequestLemmas
 pub mod TruthLemmas

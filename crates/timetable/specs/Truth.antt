@@ -4,13 +4,13 @@ use Rattle.fixed_interval.specs.Fraction.{over}
 use Rattle.fixed_interval.specs.Enclosure.{Enclosure}
 use Rattle.fixed_interval.specs.Grid.{enclosure_of_range}
 use Rattle.solar_terms.specs.Sun.{exact_sun}
-use Rattle.altitude_test.specs.Conditions.{Spot, IsAbove, IsBelow, altitude_at, meridian_at}
+use Rattle.altitude_test.specs.Conditions.{Spot, IsAbove, IsBelow, IsWithin, altitude_at, meridian_at}
 use Rattle.asr_test.specs.AsrLaws.{asr_at}
 use Rattle.timetable.specs.Verdict.{angle_of, verdict_of}
 use Rattle.timetable.specs.declared.request.Question.{Question}
 use Rattle.timetable.specs.declared.request.Question.TheVariants.{Altitude, Meridian, Shadow}
 use Rattle.timetable.specs.declared.request.Request.{Request}
-use Rattle.timetable.specs.declared.verdict.Verdict.TheVariants.{Above, Below}
+use Rattle.timetable.specs.declared.verdict.Verdict.TheVariants.{Above, Below, Open}
 
 -- the place of a request, in place units
 unfoldable pub spot_of : Request → Spot
@@ -22,7 +22,15 @@ asked_at (Altitude angle) k p = altitude_at exact_sun k p (enclosure_of_range (a
 asked_at Meridian k p = meridian_at exact_sun k p
 asked_at (Shadow factor) k p = asr_at exact_sun k p factor
 
--- where the verdict is above, the value is above zero there, and where it is below, below
+-- the tolerance of a value: 2^-24 for the altitude and the meridian, 2^-14 for Asr
+abbrev pub tolerance_bits : Question → ℕ
+tolerance_bits (Altitude angle) = 24
+tolerance_bits Meridian = 24
+tolerance_bits (Shadow factor) = 14
+
+-- where the verdict is above, the value is above zero there, where it is below, below, and where it is open, within
+-- the tolerance
 pub record IsTrueOfSky (r : Request) : Type 0 where
   pub above : verdict_of r ≡ Above → IsAbove (asked_at r.question r.minute (spot_of r))
   pub below : verdict_of r ≡ Below → IsBelow (asked_at r.question r.minute (spot_of r))
+  pub undecided : verdict_of r ≡ Open → IsWithin (tolerance_bits r.question) (asked_at r.question r.minute (spot_of r))

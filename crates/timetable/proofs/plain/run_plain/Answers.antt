@@ -1,5 +1,6 @@
 use Rattle.std.proofs.Common.{subst, List, [], ℕ, map, string_bytes}
 use Rattle.timetable.proofs.Endings.{ends_unread, is_no_read_fault, reported_line}
+use Rattle.timetable.proofs.RequestLemmas.{request_minute_small}
 use Rattle.timetable.proofs.TruthLemmas.{is_true_of_sky}
 use Rattle.timetable.specs.Streams.{Reports}
 use Rattle.timetable.proofs.plain.run_plain.Goals as goal
@@ -19,4 +20,4 @@ returns-clause-reads g c = λ fault.
     absurd (is_no_read_fault _ c.answer-status.result _ _ _ _ (c.answer-status.ensures.ends []) fault)
 
 pub returns-clause-truth : goal.returns-clause-truth
-returns-clause-truth g c = λ rest r is_words is_request. is_true_of_sky r
+returns-clause-truth g c = λ rest r is_words is_request. is_true_of_sky r (request_minute_small rest r is_request)
