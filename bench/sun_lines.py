@@ -1,4 +1,4 @@
-"""Compares random lines of `sun` with an angle, as a program prints them, with those of a reference, byte for byte.
+"""Compares random lines of `sun`, as a program prints them, with those of a reference, byte for byte.
 
     python3 bench/sun_lines.py COUNT PROGRAM REFERENCE [SEED]
 
@@ -14,6 +14,7 @@ import sys
 MINUTES = ['0', '-1', '53200000', '-53200000']
 LONGITUDES = ['0', '-0', '360', '-360', '360.000000', '0.000001', '-0.000001', '007.5']
 LATITUDES = ['0', '-0.0', '65', '-65', '65.000000', '-64.999999', '05']
+CONDITIONS = ['meridian', 'asr1', 'asr2']
 ANGLES = ['0', '0.0', '30', '30.000000', '29.999999', '0.000001', '18', '00.5']
 
 
@@ -35,7 +36,7 @@ def words(draw):
         choose(MINUTES, str(draw.randint(-53_200_000, 53_200_000))),
         choose(LONGITUDES, decimal(draw, -360, 360)),
         choose(LATITUDES, decimal(draw, -65, 65)),
-        choose(ANGLES, decimal(draw, 0, 30)),
+        draw.choice(CONDITIONS) if draw.random() < 0.5 else choose(ANGLES, decimal(draw, 0, 30)),
     ]
 
 
