@@ -1,11 +1,10 @@
 -- Each condition has one side, and the grid shows it.
-use Rattle.std.proofs.Common.{ℕ, suc, max, ℤ, pos, ◌≤ℤ◌, ◌<ℤ◌, arith}
-use Rattle.std.proofs.lemmas.Int.{ints}
-use Rattle.fixed_interval.specs.Fraction.{over}
-use Rattle.fixed_interval.specs.Enclosure.{Enclosure, IsOrdered, LiesIn, IsAboveZero, IsBelowZero, point}
+use Rattle.std.proofs.Common.{ℕ, suc, max, ℤ, ◌≤ℤ◌, arith}
+use Rattle.fixed_interval.specs.Enclosure.{Enclosure, IsOrdered, LiesIn, point}
 use Rattle.fixed_interval.specs.Grid.{Ends, Range, DEPTH, enclosure_of, enclosure_of_range}
 use Rattle.fixed_interval.proofs.FractionLaws.{over_mono}
 use Rattle.fixed_interval.proofs.EnclosureLaws.{LiesIn_refl, point_ordered, sum_ordered, difference_ordered, product_ordered, above_zero, below_zero, above_not_below}
+use Rattle.fixed_interval.proofs.Inclusion.{above_of_ends, below_of_ends}
 use Rattle.trig_series.proofs.SineLaws.{sine_ordered}
 use Rattle.solar_terms.specs.Sun.{SunTerms}
 use Rattle.solar_terms.specs.SunLaws.{SunSource, IsSunSource, GridHoldsSun, exact_terms}
@@ -27,14 +26,6 @@ one_sided_value value ordered narrows = record {
       (above_zero _ _ (lies_deeper value narrows n above.depth (omega arith)) above.found)
       (below_zero _ _ (lies_deeper value narrows n below.depth (omega arith)) below.found);
 }
-
-above_of_ends : (e : Ends) → pos 0 <ℤ e.lo → IsAboveZero (enclosure_of e)
-unfolding enclosure_of over
-above_of_ends e h = record { above = record { crossed = omega (arith, ints) } }
-
-below_of_ends : (e : Ends) → e.hi <ℤ pos 0 → IsBelowZero (enclosure_of e)
-unfolding enclosure_of over
-below_of_ends e h = record { below = record { crossed = omega (arith, ints) } }
 
 -- the grid shows the side of what it holds
 pub shown_side : (e : Ends) (value : ℕ → Enclosure) → LiesIn (value DEPTH) (enclosure_of e) → ShowsSide e value

@@ -225,11 +225,9 @@ fn a_head_with_everything(rt: HostRuntime) -> Result<(), Fail> {
         9000,
         SunChoice::Meeus,
     )?;
-    assert!(rt;
-        head.as_slice().starts_with(
-            "prayer timetable 1\nfrom 1970-01-01 days 366 method makkah asr hanafi zone rule positions 4096 height 9000 sun meeus\ndate ".as_bytes()
-        )
-    );
+    let expected =
+        "prayer timetable 1\nfrom 1970-01-01 days 366 method makkah asr hanafi zone rule positions 4096 height 9000 sun meeus\ndate         fajr  f.end  dhuhr    asr   magh  m.end   isha\n";
+    assert_eq!(rt; head.as_slice(), expected.as_bytes());
     assert_eq!(rt; sun_word(SunChoice::Usno), "usno");
     Ok(())
 }

@@ -7,7 +7,7 @@ ghost use Rattle.year_table.specs.Rules.{IsNoonOffset, is_plain, is_rule, is_rul
 
 use crate::date::noon_of;
 use jiff::tz::{AmbiguousOffset, TimeZone};
-use std::alloc::{AllocError, AllocFailed, Global};
+use std::alloc::{AllocError, Global};
 use std::marker::Model;
 
 /// The clock of an order.
