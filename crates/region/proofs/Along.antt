@@ -131,3 +131,15 @@ first_here box xs ys p h = sym (first_point-append box xs ys ∙ ap (λ o. optio
 pub next_left : {A : Type 0} (xs : List A) (i : ℕ) (x : A) → i < length xs → x ≡ get_or xs i x
     → drop i xs ≡ x ∷ drop (i + 1) xs
 next_left xs i x h e = drop-cons xs i x h ∙ rw (add-one) (ap (λ y. y ∷ drop (suc i) xs) (sym e))
+
+pub short_step : (p : Position) (all : Ring) (i : ℕ) → i < length all → is_short_from p (drop i all) ≡ true
+    → is_step p (get_or all i (pos 0, pos 0)) ≡ true
+short_step p all i h s =
+    let left = drop-cons all i (pos 0, pos 0) h in
+    let q = get_or all i (pos 0, pos 0) in
+    let rest = drop (suc i) all in
+    and_left (is_step p q) (is_short_from q rest)
+    (and_right (not (is_far p)) (is_step p q && is_short_from q rest) (rw left at s))
+
+pub next_position : (all : Ring) (i : ℕ) → i < length all → drop i all ≡ get_or all i (pos 0, pos 0) ∷ drop (i + 1) all
+next_position all i h = drop-cons all i (pos 0, pos 0) h ∙ rw add-one refl

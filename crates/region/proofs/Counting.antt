@@ -32,7 +32,7 @@ is_closed_by_ends (p ∷ rest) d h =
     let e : length (p ∷ rest) - 1 ≡ length rest = omega arith in
     rw (e, last_is p rest d) refl
 
-ring_fault-append : (n : ℕ) (xs ys : List Ring)
+pub ring_fault-append : (n : ℕ) (xs ys : List Ring)
     → ring_fault n (xs ++ ys) ≡ option_or (ring_fault n xs) (ring_fault (n + length xs) ys)
 ring_fault-append n [] ys = rw (add-zero) refl
 ring_fault-append n (ring ∷ xs) ys =

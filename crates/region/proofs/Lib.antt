@@ -11,3 +11,5 @@ pub mod Along
 pub mod Sound
 pub mod Counting
 pub mod Reach
+pub mod Cut
+pub mod Keeping

@@ -18,7 +18,7 @@ on_beyond_latitudes e p h = and_false _ _ (false_and _ _ h)
 alike_beyond : (u v z : ℤ) → encloses u v z ≡ false → int_lt z u ≡ int_lt z v
 alike_beyond u v z h = grind (arith, ints)
 
-no_cross_level : (from to left right : Bool) → from ≡ to → cond to (not from && left) (from && right) ≡ false
+pub no_cross_level : (from to left right : Bool) → from ≡ to → cond to (not from && left) (from && right) ≡ false
 no_cross_level true true left right h = refl
 no_cross_level true false left right h = cc
 no_cross_level false true left right h = cc

@@ -8,3 +8,4 @@ pub mod Views
 pub mod Faults
 pub mod Vectors
 pub mod Bounds
+pub mod Strips

@@ -66,7 +66,7 @@ pub(crate) const DISTRICTS: [&[&[&[(i64, i64)]]]; 9] = [
 ];
 
 /// A district's number, a place `a / d`, `b / d` in place units, and whether it is in the district.
-pub(crate) const PLACES: [(usize, i128, i128, i128, bool); 126] = [
+pub(crate) const PLACES: &[(usize, i128, i128, i128, bool)] = &[
     (0, 143843113649508017, 105329143980129010, 536870919, false),
     (0, 206158432895999999, 155684972416000000, 536870919, false),
     (0, 0, 0, 1, true),
@@ -227,7 +227,7 @@ pub(crate) const PLACES: [(usize, i128, i128, i128, bool); 126] = [
 
 /// A district's number, a box by its corner in the south-west, its width and its height, in place units,
 /// and the place that is named for it.
-pub(crate) const BOXES: [(usize, i64, i64, i64, i64, Option<(i128, i128, i128)>); 134] = [
+pub(crate) const BOXES: &[(usize, i64, i64, i64, i64, Option<(i128, i128, i128)>)] = &[
     (
         0,
         126633638,

@@ -1,7 +1,9 @@
 // Districts of polygons, and the places and boxes that meet them.
-ghost use Rattle.std.specs.Prelude.{◌≡◌, ℤ, List, length, slice_get, slice_index_or, [], ◌<◌, IsTrue, IsFalse, IfSome, IfNone, IfOk, IfErr, OnOk, ◌⊎◌, Some, None};
+ghost use Rattle.std.specs.Prelude.{◌≡◌, ℤ, List, length, slice_get, slice_index_or, [], ◌<◌, IsTrue, IsFalse, IfSome, IfNone, IfOk, IfErr, OnOk, ◌⊎◌, pos, Some, None};
 ghost use Rattle.std.specs.List.{list_all};
 ghost use Rattle.std.specs.Option.{option_map};
+ghost use Rattle.region.specs.Magnitude.{IsWithin};
+ghost use Rattle.region.specs.Strips.{AreStripsOf};
 ghost use Rattle.region.specs.Plane.{Place, IsIn};
 ghost use Rattle.region.specs.Rings.{is_in_district};
 ghost use Rattle.region.specs.Named.{named};
@@ -15,7 +17,9 @@ use crate::points::Point;
 use crate::polygons::{Polygon, any_contains, first_point};
 use crate::rects::Rect;
 use crate::rings::Ring;
+use crate::strips::{Strips, strips_of};
 use crate::surveys::survey_of;
+use no_memory::NoMemory;
 use std::alloc::{AllocError, Global};
 use std::marker::Model;
 
@@ -121,6 +125,18 @@ impl District {
             Some(corner)
         } else {
             None
+        }
+    }
+
+    /// The district's edges in 64 strips of latitude, each 2^23 place units high, the first from
+    /// `south` on. The latitude `south` is within 8,320,000,000 place units either way.
+    pub fn strips(&self, alloc: Global, south: i64) -> Result<Strips, NoMemory>
+        requires { IsWithin (pos 8_320_000_000) south }
+        ensures { IfOk result (λ strips. AreStripsOf self.now south strips) }
+    {
+        match strips_of(alloc, self.polygons.as_slice(), south) {
+            Ok(strips) => Ok(strips),
+            Err(_) => Err(NoMemory),
         }
     }
 

@@ -1,4 +1,5 @@
 ghost use Rattle.region.specs.Laws.{IsWhollyInOrOut, NamesExactly, NamesNoneBeyond};
+ghost use Rattle.region.specs.Strips.{NamesWithoutBeyond};
 
 /// A box that no edge of a polygon meets lies wholly inside the polygon or wholly outside it.
 pub fn wholly_in_or_out()
@@ -14,4 +15,9 @@ pub fn names_exactly()
 /// An edge whose own closed box misses a box names no point for it and holds no place of it.
 pub fn names_none_beyond()
     ensures { NamesNoneBeyond }
+{}
+
+/// An edge whose latitudes don't meet the box's changes neither the named place nor its absence.
+pub fn names_without_beyond()
+    ensures { NamesWithoutBeyond }
 {}

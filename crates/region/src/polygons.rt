@@ -1,5 +1,7 @@
 // A polygon: its rings together, by the even-odd rule.
-ghost use Rattle.std.specs.Prelude.{◌≡◌, ℤ, List, length, slice_get, count_by, ◌<◌};
+ghost use Rattle.std.specs.Prelude.{◌≡◌, ℤ, List, length, slice_get, count_by, ◌<◌, pos, map, ◌++◌, OnOk};
+ghost use Rattle.region.specs.Magnitude.{IsWithin};
+ghost use Rattle.region.specs.Strips.{numbered, kept};
 ghost use Rattle.std.specs.List.{list_any, flat_map};
 ghost use Rattle.std.specs.Option.{option_map};
 ghost use Rattle.region.specs.Plane.{is_on, crosses};
@@ -7,10 +9,12 @@ ghost use Rattle.region.specs.Rings.{polygon_edges, is_odd, is_in_polygon, is_in
 ghost use Rattle.region.specs.Named.{first_point};
 ghost use Rattle.region.specs.Views.{place_of, box_of};
 
+use crate::edges::Edge;
 use crate::points::Point;
 use crate::rects::Rect;
 use crate::rings::Ring;
 use crate::touches::Touch;
+use std::alloc::AllocError;
 use std::marker::Model;
 
 /// The rings of a polygon, the outer one and its holes.
@@ -50,6 +54,22 @@ fn rings_point(rings: &[Ring], r: &Rect) -> Option<Point>
     None
 }
 
+fn keep_rings(
+    edges: &mut Vec<Edge>,
+    rings: &[Ring],
+    polygon: u32,
+    low: i64,
+) -> Result<(), AllocError>
+    requires { IsWithin (pos 47_000_000_000) low }
+    ensures { OnOk result (map numbered edges.new.items
+        ≡ map numbered edges.old.items ++ kept polygon low (polygon_edges rings.now)) }
+{
+    for ring in rings {
+        ring.keep_edges(edges, polygon, low)?;
+    }
+    Ok(())
+}
+
 impl Polygon {
     pub(crate) fn new(rings: Vec<Ring>) -> Polygon
         ensures { result ≡ rings.items }
@@ -75,6 +95,20 @@ impl Polygon {
     {
         let touch = rings_touch(self.rings.as_slice(), p);
         touch.on || touch.odd
+    }
+
+    /// Adds the polygon's edges that reach the strip which begins at `low`.
+    pub(crate) fn keep_edges(
+        &self,
+        edges: &mut Vec<Edge>,
+        polygon: u32,
+        low: i64,
+    ) -> Result<(), AllocError>
+        requires { IsWithin (pos 47_000_000_000) low }
+        ensures { OnOk result (map numbered edges.new.items
+            ≡ map numbered edges.old.items ++ kept polygon low (polygon_edges self.now)) }
+    {
+        keep_rings(edges, self.rings.as_slice(), polygon, low)
     }
 
     pub(crate) fn point_in(&self, r: &Rect) -> Option<Point>

@@ -1,5 +1,7 @@
 // A polygon's ring: its positions, and its edges in place units.
-ghost use Rattle.std.specs.Prelude.{◌≡◌, ℤ, List, length, slice_get, IsTrue, IsFalse, count_by, ◌<◌};
+ghost use Rattle.std.specs.Prelude.{◌≡◌, ℤ, List, length, slice_get, IsTrue, IsFalse, count_by, ◌<◌, pos, map, ◌++◌, OnOk};
+ghost use Rattle.region.specs.Magnitude.{IsWithin};
+ghost use Rattle.region.specs.Strips.{numbered, kept};
 ghost use Rattle.std.specs.List.{list_any};
 ghost use Rattle.std.specs.Option.{option_map};
 ghost use Rattle.region.specs.Plane.{is_on, crosses};
@@ -10,9 +12,11 @@ ghost use Rattle.region.specs.Views.{place_of, box_of, segment_of};
 
 use crate::edge_points::edge_point;
 use crate::edges::Edge;
+use crate::keeps::keep_edge;
 use crate::points::Point;
 use crate::rects::Rect;
 use crate::touches::{Touch, edge_touch};
+use std::alloc::AllocError;
 use std::marker::Model;
 
 /// The positions of a ring, in microdegrees, none of them far and each near the one before it.
@@ -77,6 +81,26 @@ fn point_along(first: (i64, i64), rest: &[(i64, i64)], r: &Rect) -> Option<Point
     None
 }
 
+fn keep_along(
+    edges: &mut Vec<Edge>,
+    first: (i64, i64),
+    rest: &[(i64, i64)],
+    polygon: u32,
+    low: i64,
+) -> Result<(), AllocError>
+    requires short { IsTrue (is_short_from first rest.now) }
+    requires low { IsWithin (pos 47_000_000_000) low }
+    ensures { OnOk result (map numbered edges.new.items
+        ≡ map numbered edges.old.items ++ kept polygon low (edges_from first rest.now)) }
+{
+    let mut previous = first;
+    for next in rest {
+        keep_edge(edges, edge_between(previous, *next, polygon), low)?;
+        previous = *next;
+    }
+    Ok(())
+}
+
 impl Ring {
     pub(crate) fn new(positions: Vec<(i64, i64)>) -> Ring
         requires { IsTrue (is_short positions.items) }
@@ -109,6 +133,23 @@ impl Ring {
                 on: false,
                 odd: false,
             },
+        }
+    }
+
+    /// Adds the ring's edges that reach the strip which begins at `low`.
+    pub(crate) fn keep_edges(
+        &self,
+        edges: &mut Vec<Edge>,
+        polygon: u32,
+        low: i64,
+    ) -> Result<(), AllocError>
+        requires { IsWithin (pos 47_000_000_000) low }
+        ensures { OnOk result (map numbered edges.new.items
+            ≡ map numbered edges.old.items ++ kept polygon low (ring_edges self.now)) }
+    {
+        match self.positions.split_first() {
+            Some((first, rest)) => keep_along(edges, *first, rest, polygon, low),
+            None => Ok(()),
         }
     }
 

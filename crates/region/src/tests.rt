@@ -55,7 +55,8 @@ fn rect(rt: &impl Abort, x: i64, width: i64, y: i64, height: i64) -> Rect {
 #[test]
 fn contains_and_meets_as_the_reference(rt: HostRuntime) -> Result<(), Fail> {
     let districts = all_districts(rt.alloc())?;
-    for (n, a, b, d, want) in PLACES {
+    for case in PLACES {
+        let (n, a, b, d, want) = *case;
         let district = districts.get(n).ok_or("no such district")?;
         assert_eq!(rt;
             district.contains(point(&rt, a, b, d)),
@@ -63,12 +64,13 @@ fn contains_and_meets_as_the_reference(rt: HostRuntime) -> Result<(), Fail> {
             "{n} at {a} {b} {d}"
         );
     }
-    for (n, x0, x1, y0, y1, want) in BOXES {
+    for case in BOXES {
+        let (n, x, y, width, height, want) = *case;
         let district = districts.get(n).ok_or("no such district")?;
         let found = district
-            .meets(rect(&rt, x0, x1, y0, y1))
+            .meets(rect(&rt, x, width, y, height))
             .map(|p| (p.a, p.b, p.d));
-        assert_eq!(rt; found, want, "{n} in {x0} {x1} {y0} {y1}");
+        assert_eq!(rt; found, want, "{n} in {x} {y} {width} {height}");
     }
     Ok(())
 }
@@ -173,5 +175,25 @@ fn reads_back(rt: HostRuntime) -> Result<(), Fail> {
     assert!(rt; district.ring_count(0) == 1);
     assert!(rt; district.position_count(0, 0) == 4);
     assert_eq!(rt; district.position(0, 0, 2), (5, -7));
+    Ok(())
+}
+
+#[test]
+fn strips_hold_the_edges_that_reach_them(rt: HostRuntime) -> Result<(), Fail> {
+    let districts = all_districts(rt.alloc())?;
+    let square = districts.get(6).ok_or("no such district")?;
+    let strips = square.strips(rt.alloc(), 0)?;
+    assert_eq!(rt; strips.strip(0).edge_count(), 3);
+    assert_eq!(rt; strips.strip(1).edge_count(), 2);
+    assert_eq!(rt; strips.strip(61).edge_count(), 3);
+    assert_eq!(rt; strips.strip(63).edge_count(), 0);
+    let strip = strips.strip(30);
+    let r = rect(&rt, MILLION, 16, 2 * MILLION, 16);
+    assert!(rt; strip.low() <= r.y0);
+    assert!(rt; r.y1 - 8_388_608 <= strip.low());
+    assert_eq!(rt;
+        strip.meets(r).map(|p| (p.a, p.b, p.d)),
+        Some((128_000_000, 256_000_000, 1))
+    );
     Ok(())
 }

@@ -1,0 +1,196 @@
+// A district's edges in strips of latitude, so that a small box asks only those near it.
+ghost use Rattle.std.specs.Prelude.{◌≡◌, ℤ, pos, ◌≤ℤ◌, ◌&&◌, not, ◌<◌, List, map, length, slice_get, false, if◌then◌else◌, ◌^◌, ◌+ℤ◌, ◌*◌, IfOk, Some};
+ghost use Rattle.region.specs.Magnitude.{IsWithin};
+ghost use Rattle.std.specs.Option.{option_map};
+ghost use Rattle.region.specs.Rings.{xor};
+ghost use Rattle.region.specs.Named.{first_point, named};
+ghost use Rattle.region.specs.Strips.{StripView, IsStripOf, AreStripsOf, top_of, numbered, is_in_some};
+ghost use Rattle.region.specs.Views.{place_of, box_of, segment_of};
+
+use crate::edge_points::edge_point;
+use crate::edges::Edge;
+use crate::points::Point;
+use crate::polygons::Polygon;
+use crate::rects::Rect;
+use crate::touches::edge_touch;
+use std::alloc::{AllocError, Global};
+use std::marker::Model;
+
+/// The edges of a district whose closed range of latitudes meets the strip's, which is 2^23 place
+/// units high, in the order of polygons, rings and positions.
+#[derive(Drop)]
+pub struct Strip {
+    low: i64,
+    edges: Vec<Edge>,
+}
+
+impl Model for Strip {
+    ghost Value = { StripView };
+
+    ghost view = { λ s. record { low = s.low; edges = s.edges.items } };
+}
+
+// Where the edges first meet a box.
+fn first_of(edges: &[Edge], r: &Rect) -> Option<Point>
+    ensures { option_map place_of result ≡ first_point (box_of r.now) (map segment_of edges.now) }
+{
+    for edge in edges {
+        if let Some(p) = edge_point(edge, r) {
+            return Some(p);
+        }
+    }
+    None
+}
+
+// The polygon so far has the place inside, and another one begins.
+fn ends_inside(same: bool, odd: bool) -> bool
+    ensures { result ≡ (not same && odd) }
+{
+    !same && odd
+}
+
+// The parity with one more edge, of the same polygon or of the next.
+fn next_odd(same: bool, odd: bool, crossed: bool) -> bool
+    ensures { result ≡ (if same then xor odd crossed else crossed) }
+{
+    if same { odd != crossed } else { crossed }
+}
+
+// Whether the place is in a polygon of which these are the edges that matter to it.
+fn any_around(edges: &[Edge], p: &Point) -> bool
+    ensures { result ≡ is_in_some (place_of p.now) 0 false (map numbered edges.now) }
+{
+    let mut polygon = 0;
+    let mut odd = false;
+    for edge in edges {
+        let same = edge.polygon == polygon;
+        if ends_inside(same, odd) {
+            return true;
+        }
+        let touch = edge_touch(edge, p);
+        if touch.on {
+            return true;
+        }
+        odd = next_odd(same, odd, touch.odd);
+        polygon = edge.polygon;
+    }
+    odd
+}
+
+impl Strip {
+    pub(crate) fn new(low: i64, edges: Vec<Edge>) -> Strip
+        ensures low { result.low ≡ low }
+        ensures edges { result.edges ≡ edges.items }
+    {
+        Strip { low, edges }
+    }
+
+    /// The lower end of the strip's latitudes, in place units.
+    pub fn low(&self) -> i64
+        ensures { result ≡ self.now.low }
+    {
+        self.low
+    }
+
+    pub fn edge_count(&self) -> usize
+        ensures { result ≡ length self.now.edges }
+    {
+        self.edges.len()
+    }
+
+    pub fn edge(&self, i: usize) -> Edge
+        requires { i < length self.now.edges }
+        ensures { slice_get self.now.edges i ≡ Some result }
+    {
+        self.edges[i]
+    }
+
+    /// The place that is named for the box, as by the whole district. The box's latitudes lie in the
+    /// strip's.
+    pub fn meets(&self, r: Rect) -> Option<Point>
+        requires low { self.now.low ≤ℤ r.y0 }
+        requires high { r.y1 ≤ℤ top_of self.now.low }
+        ensures { (polygons : List (List (List (ℤ × ℤ)))) → IsStripOf polygons self.now
+            → option_map place_of result ≡ named (box_of r) polygons }
+    {
+        if let Some(p) = first_of(self.edges.as_slice(), &r) {
+            return Some(p);
+        }
+        let corner = Point {
+            a: r.x0 as i128,
+            b: r.y0 as i128,
+            d: 1,
+        };
+        if any_around(self.edges.as_slice(), &corner) {
+            Some(corner)
+        } else {
+            None
+        }
+    }
+}
+
+/// The 64 strips of a root's height, one on another.
+#[derive(Drop)]
+pub struct Strips {
+    strips: Vec<Strip>,
+}
+
+impl Model for Strips {
+    ghost Value = { List StripView };
+
+    ghost view = { λ s. s.strips.items };
+
+    ghost invariant = { λ s. length s.strips.items ≡ 64 };
+}
+
+impl Strips {
+    /// The strip of this number, from the south.
+    pub fn strip(&self, i: u32) -> &Strip
+        requires { i < 64 }
+        ensures { slice_get self.now i ≡ Some result.now }
+    {
+        &self.strips[i as usize]
+    }
+}
+
+// The strip that begins at `low`.
+fn strip_of(alloc: Global, polygons: &[Polygon], low: i64) -> Result<Strip, AllocError>
+    requires few { length polygons.now < 2 ^ 32 }
+    requires low { IsWithin (pos 47_000_000_000) low }
+    ensures { IfOk result (λ strip. (strip.low ≡ low) × IsStripOf polygons.now strip) }
+{
+    let mut edges = Vec::new(alloc);
+    let mut number = 0;
+    for polygon in polygons {
+        polygon.keep_edges(&mut edges, number, low)?;
+        number += 1;
+    }
+    Ok(Strip::new(low, edges))
+}
+
+// The lower end of the strip of this number.
+fn low_at(south: i64, i: u32) -> i64
+    requires south { IsWithin (pos 8_320_000_000) south }
+    requires number { i < 64 }
+    ensures value { result ≡ south +ℤ pos (i * 2 ^ 23) }
+    ensures within { IsWithin (pos 47_000_000_000) result }
+{
+    south + i64::from(i) * 8_388_608
+}
+
+/// The strips from the latitude `south` on.
+pub(crate) fn strips_of(
+    alloc: Global,
+    polygons: &[Polygon],
+    south: i64,
+) -> Result<Strips, AllocError>
+    requires few { length polygons.now < 2 ^ 32 }
+    requires south { IsWithin (pos 8_320_000_000) south }
+    ensures { IfOk result (λ strips. AreStripsOf polygons.now south strips) }
+{
+    let mut strips = Vec::new(alloc);
+    for i in 0..64u32 {
+        strips.push(strip_of(alloc, polygons, low_at(south, i))?)?;
+    }
+    Ok(Strips { strips })
+}
