@@ -18,6 +18,4 @@ pub use reader::read;
 pub use value::{Json, JsonList, JsonTable, JsonText};
 
 #[cfg(test)]
-mod rows;
-#[cfg(test)]
 mod tests;
