@@ -1,12 +1,12 @@
 -- A byte within a character: it leads on wherever a character may be left, and the other way round.
-use Rattle.std.proofs.Common.{◌≡◌, ℕ, zero, suc, ◌+◌, ◌-◌, ◌*◌, ◌/◌, ◌%◌, ◌^◌, ◌<◌, ◌≤◌, Bool, true, false, cond, ◌&&◌, List, [], ◌∷◌, ◌++◌, Option, Some, None, refl, sym, ap, subst, ◌∙◌, ◌⊎◌, inl, inr, ◌==◌, arith, nat_lt, nat_le, not, max}
-use Rattle.std.proofs.lemmas.Bool.{eqb-true, and_parts, and_from, ltb-true, leb-true, ltb-false, leb-false, lt-ltb, le-leb}
+use Rattle.std.proofs.Common.{◌≡◌, ℕ, zero, suc, ◌+◌, ◌-◌, ◌*◌, ◌/◌, ◌%◌, ◌^◌, ◌<◌, ◌≤◌, Bool, true, false, cond, ◌&&◌, List, [], ◌∷◌, Option, Some, None, refl, sym, ap, subst, ◌∙◌, ◌⊎◌, inl, inr, ◌==◌, arith, nat_lt, nat_le, not, max}
+use Rattle.std.proofs.lemmas.Bool.{eqb-true, and_parts, and_from, ltb-true, leb-true, ltb-false, lt-ltb, le-leb}
 use Rattle.std.proofs.lemmas.Bool.Decides.{nat_tests}
 use Rattle.std.specs.Char.{digit_value, encode_utf8}
 use Rattle.std.specs.Char as char
 use lib.Utf8.{scalar, next}
 use Rattle.exact_json.specs.Ascii as ascii
-use Rattle.exact_json.specs.Pieces.{Byte, Word, HexDigits}
+use Rattle.exact_json.specs.Pieces.{Word, HexDigits}
 use Rattle.exact_json.specs.Texts.{is_plain, short_escape, is_high_surrogate, is_low_surrogate, paired, Short, LowHalf, Unit16, Escape, Character}
 use Rattle.exact_json.specs.Within.{Within, plain, escape, unit, high, high_escape, low, tail, Outcome, goes_on, ends, refused, above_16, above_64, is_unit_begun, is_low_begun, is_tail_begun, is_begun, checked, after_unit, after_low, after_tail, after_short, after_lead, after_byte}
 use Rattle.exact_json.proofs.Left.{TailBytes, IsFrom, CharacterRest}

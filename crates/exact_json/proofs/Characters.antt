@@ -1,15 +1,14 @@
 -- A byte within a character of a text.
-use Rattle.std.proofs.Common.{◌≡◌, ℕ, zero, suc, ◌+◌, ◌-◌, ◌*◌, ◌/◌, ◌%◌, ◌^◌, ◌<◌, ◌≤◌, Bool, true, false, cond, ◌&&◌, List, [], ◌∷◌, ◌++◌, Option, Some, None, refl, sym, ap, subst, ◌∙◌, ◌⊎◌, inl, inr, ◌==◌, arith, max, not, nat_lt, nat_le}
+use Rattle.std.proofs.Common.{◌≡◌, ℕ, zero, suc, ◌+◌, ◌-◌, ◌*◌, ◌^◌, ◌<◌, ◌≤◌, Bool, true, false, cond, ◌&&◌, List, [], ◌∷◌, refl, sym, ap, subst, ◌⊎◌, inl, inr, arith, max, not, nat_lt, nat_le}
 use Rattle.std.proofs.Math.Nat.{mul-le-mul_right, pow-succ', lt_of_le_of_lt}
-use Rattle.std.proofs.lemmas.Bool.{eqb-true, and_parts, and_from, ltb-true, leb-true, lt-ltb, le-leb}
+use Rattle.std.proofs.lemmas.Bool.{and_parts, and_from, ltb-true, leb-true, lt-ltb, le-leb}
 use Rattle.std.proofs.lemmas.Bool.Decides.{nat_tests}
-use Rattle.std.specs.Char.{digit_value, encode_utf8}
+use Rattle.std.specs.Char.{digit_value}
 use Rattle.std.specs.Char as char
 use lib.Utf8.{scalar, scalar_cases}
-use Rattle.exact_json.specs.Ascii as ascii
-use Rattle.exact_json.specs.Pieces.{Byte, Word, HexDigits}
-use Rattle.exact_json.specs.Texts.{is_plain, short_escape, is_high_surrogate, is_low_surrogate, paired, Short, LowHalf, Unit16, Escape, Character}
-use Rattle.exact_json.specs.Within.{Within, plain, escape, unit, high, high_escape, low, tail, Outcome, goes_on, ends, refused, above_16, above_64, is_unit_begun, is_low_begun, is_tail_begun, is_begun, after_unit, after_low, after_tail, after_short, after_lead, after_byte}
+use Rattle.exact_json.specs.Pieces.{HexDigits}
+use Rattle.exact_json.specs.Texts.{is_high_surrogate, is_low_surrogate, paired, LowHalf, Unit16}
+use Rattle.exact_json.specs.Within.{Outcome, goes_on, ends, refused, above_16, above_64, is_unit_begun, is_low_begun, is_tail_begun, after_unit, after_low, after_tail}
 use Rattle.exact_json.proofs.Left.{TailBytes, IsFrom, CharacterRest}
 
 -- what may be left after a byte, by what it made of the character

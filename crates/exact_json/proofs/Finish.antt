@@ -1,25 +1,19 @@
 -- Bytes that complete a text from any state.
-use Rattle.std.proofs.Common.{◌≡◌, ℕ, zero, suc, ◌+◌, ◌-◌, ◌*◌, ◌/◌, ◌%◌, ◌^◌, ◌<◌, ◌≤◌, Bool, true, false, cond, not, ◌&&◌, List, [], ◌∷◌, ◌++◌, length, Option, Some, None, refl, sym, ap, subst, ◌∙◌, ◌⊎◌, inl, inr, max, nat_lt, nat_le, arith, append-nil, append_assoc}
-use Rattle.std.proofs.Math.Nat.{pow-succ'}
-use Rattle.std.proofs.lemmas.Bool.{and_parts, and_from, ltb-true, leb-true, lt-ltb, le-leb}
+use Rattle.std.proofs.Common.{◌≡◌, ℕ, zero, suc, ◌+◌, ◌-◌, ◌*◌, ◌/◌, ◌%◌, ◌<◌, ◌≤◌, Bool, true, false, not, ◌&&◌, List, [], ◌∷◌, ◌++◌, length, refl, sym, subst, inl, inr, max, nat_lt, nat_le, arith, append_assoc}
+use Rattle.std.proofs.lemmas.Bool.{and_parts, and_from, ltb-true, lt-ltb, le-leb}
 use Rattle.std.proofs.lemmas.Bool.Decides.{nat_tests}
 use Rattle.std.proofs.lemmas.Str.{digit_value-digit_char}
 use Rattle.std.specs.Char.{digit_value, digit_char, encode_utf8}
-use Rattle.std.specs.Char as char
-use Rattle.std.specs.Str.{encode_utf8_all}
 use lib.Utf8.{scalar}
 use Rattle.exact_json.specs.Ascii as ascii
-use Rattle.exact_json.specs.Grammar.{MoreItems, MoreMembers, Value, Fraction, Exponent}
+use Rattle.exact_json.specs.Grammar.{Value}
 use Rattle.exact_json.specs.Limits.{Limits}
-use Rattle.exact_json.specs.Machine.{Frame, in_list, in_table, Numeral, Phase, after_minus, after_zero, in_whole, after_point, in_fraction, after_letter, after_sign, in_exponent, Role, as_value, as_name, State, start, mark, value, first_item, first_name, name, colon, after_item, after_member, word, numeral, characters, done}
-use Rattle.exact_json.specs.Pieces.{Is, AtEnd, Byte, Word, Digits, Blanks, HexDigits}
-use Rattle.exact_json.specs.Texts.{Characters, LowHalf, Unit16, Escape, is_high_surrogate, is_low_surrogate, paired}
-use Rattle.exact_json.specs.Tree.{Tree, null, number, text, list, table, no_item, no_pair, Entry, list_of, table_of}
+use Rattle.exact_json.specs.Machine.{Frame, in_list, in_table, Role, as_value, as_name}
+use Rattle.exact_json.specs.Pieces.{Word, Blanks, HexDigits}
+use Rattle.exact_json.specs.Texts.{LowHalf, Unit16, is_high_surrogate, is_low_surrogate, paired}
+use Rattle.exact_json.specs.Tree.{Tree, null, text, no_item, no_pair, Entry, list_of, table_of}
 use Rattle.exact_json.specs.Within.{Within, plain, escape, unit, high, high_escape, low, tail, is_begun, above_16, above_64, is_unit_begun, is_low_begun, is_tail_begun}
-use Rattle.exact_json.specs.declared.decimal.Decimal.{Decimal}
-use Rattle.exact_json.proofs.Characters.{step_16, step_64}
-use Rattle.exact_json.proofs.Left.{Closes, AfterName, ClosesText, CharactersTo, CharacterRest, Completes, NumeralTo, finished, TailBytes, IsFrom}
-use Rattle.exact_json.proofs.Sound.{IsSound}
+use Rattle.exact_json.proofs.Left.{Closes, AfterName, ClosesText, CharacterRest, TailBytes, IsFrom}
 
 -- Brackets and braces for all that is open.
 

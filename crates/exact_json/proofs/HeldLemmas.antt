@@ -1,5 +1,5 @@
 -- A written exponent that is cut off far above a million is held as the whole one is.
-use Rattle.std.proofs.Common.{◌≡◌, ℕ, ◌+◌, ◌*◌, ◌≤◌, ◌<◌, ◌^◌, Bool, true, false, ◌⊎◌, inl, inr, refl, sym, ap, ◌∙◌, arith, min, pos, neg_ℤ, ◌-ℤ◌, ◌≤ℤ◌, ℤ}
+use Rattle.std.proofs.Common.{◌≡◌, ℕ, ◌+◌, ◌*◌, ◌≤◌, ◌<◌, ◌^◌, Bool, true, false, ◌⊎◌, inl, inr, sym, ap, ◌∙◌, arith, min, pos, neg_ℤ, ◌-ℤ◌, ◌≤ℤ◌, ℤ}
 use Rattle.std.proofs.lemmas.Int.{ints}
 use Rattle.exact_json.specs.Decimals.{held, signed}
 

@@ -1,10 +1,10 @@
 -- What a run within the limits keeps, and what a text within the limits makes the machine keep.
-use Rattle.std.proofs.Common.{◌≡◌, ℕ, suc, ◌+◌, ◌-◌, ◌<◌, ◌≤◌, Bool, true, false, cond, List, [], ◌∷◌, ◌++◌, length, Option, Some, None, option_and_then, refl, sym, ap, subst, ◌∙◌, ◌⊎◌, inl, inr, max, nat_lt, nat_le, arith, length-append}
-use Rattle.std.proofs.lemmas.Bool.{ltb-true, leb-true, lt-ltb, le-leb}
+use Rattle.std.proofs.Common.{◌≡◌, ℕ, ◌+◌, ◌-◌, ◌≤◌, Bool, true, false, cond, List, [], ◌∷◌, ◌++◌, length, Option, Some, None, option_and_then, refl, sym, ap, subst, ◌∙◌, inl, inr, max, nat_le, arith, length-append}
+use Rattle.std.proofs.lemmas.Bool.{leb-true, le-leb}
 use Rattle.exact_json.specs.Grammar.{Fraction, Exponent, Sign}
-use Rattle.exact_json.specs.Limits.{Limits, no_limits, limits_before}
-use Rattle.exact_json.specs.Machine.{Frame, Numeral, Phase, after_minus, after_zero, in_whole, after_point, in_fraction, after_letter, after_sign, in_exponent, State, start, mark, value, first_item, first_name, name, colon, after_item, after_member, word, numeral, characters, done, step, run, run_within, is_within}
-use Rattle.exact_json.specs.Pieces.{Is, Byte, OneOf, Digits}
+use Rattle.exact_json.specs.Limits.{no_limits, limits_before}
+use Rattle.exact_json.specs.Machine.{Numeral, Phase, after_minus, after_zero, in_whole, after_point, in_fraction, after_letter, after_sign, in_exponent, State, start, mark, value, first_item, first_name, name, colon, after_item, after_member, word, numeral, characters, done, step, run, run_within, is_within}
+use Rattle.exact_json.specs.Pieces.{Is, Digits}
 use Rattle.exact_json.specs.Tree.{Tree}
 use Rattle.exact_json.specs.declared.decimal.Decimal.{Decimal}
 use Rattle.exact_json.proofs.Ends.{FitsEnd}
@@ -12,7 +12,7 @@ use Rattle.exact_json.proofs.Left.{Completes, NumeralTo}
 use Rattle.exact_json.proofs.NumberSteps.{MayEnd}
 use Rattle.exact_json.proofs.Runs.{AllFit}
 use Rattle.exact_json.proofs.Sound.{IsSound, formed, step-sound}
-use Rattle.exact_json.proofs.Steps.{IsFormed, Fits, goes-step}
+use Rattle.exact_json.proofs.Steps.{Fits, goes-step}
 
 -- What follows a number is no longer than the bytes that begin it.
 

@@ -1,5 +1,5 @@
 -- What may be left for the machine, state by state: the grammar of what is still to come.
-use Rattle.std.proofs.Common.{◌≡◌, ℕ, zero, suc, ◌+◌, Bool, true, false, cond, ◌||◌, List, [], ◌∷◌, ◌++◌, length, Option, Some, None, refl, sym, ap, subst, ◌⊎◌, inl, inr, ◌-ℤ◌, pos}
+use Rattle.std.proofs.Common.{◌≡◌, ℕ, zero, suc, ◌+◌, Bool, true, false, ◌||◌, List, [], ◌∷◌, ◌++◌, length, Option, Some, ◌-ℤ◌, pos}
 use Rattle.std.specs.Int.Digits.{number_from_digits}
 use Rattle.std.specs.Str.{encode_utf8_all}
 use lib.Utf8.{scalar}
@@ -8,7 +8,7 @@ use Rattle.exact_json.specs.Ascii as ascii
 use Rattle.exact_json.specs.Decimals.{held, signed, significant}
 use Rattle.exact_json.specs.Grammar.{Value, Items, MoreItems, Members, MoreMembers, Fraction, Exponent, Sign, IsWhole, IsJsonBy, Unmarked}
 use Rattle.exact_json.specs.Limits.{Limits}
-use Rattle.exact_json.specs.Machine.{Frame, in_list, in_table, Numeral, Phase, after_minus, after_zero, in_whole, after_point, in_fraction, after_letter, after_sign, in_exponent, Role, as_value, as_name, State, start, mark, value, first_item, first_name, name, colon, after_item, after_member, word, numeral, characters, done, ended}
+use Rattle.exact_json.specs.Machine.{Frame, in_list, in_table, Numeral, Phase, after_minus, after_zero, in_whole, after_point, in_fraction, after_letter, after_sign, in_exponent, Role, as_value, as_name, State, start, mark, value, first_item, first_name, name, colon, after_item, after_member, word, numeral, characters, done}
 use Rattle.exact_json.specs.Pieces.{Is, AtEnd, Byte, Word, Digits, Blanks, HexDigits}
 use Rattle.exact_json.specs.Texts.{Quoted, Characters, Character, Escape, Unit16, LowHalf, is_high_surrogate}
 use Rattle.exact_json.specs.Tree.{Tree, list, table, text, number, Trees, Pairs, Entry, items_before, pairs_before}

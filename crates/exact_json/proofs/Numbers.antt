@@ -1,19 +1,16 @@
 -- A byte within a number.
-use Rattle.std.proofs.Common.{◌≡◌, ℕ, suc, ◌+◌, ◌-◌, Bool, true, false, cond, ◌||◌, ◌&&◌, List, [], ◌∷◌, ◌++◌, length, Option, Some, None, refl, sym, ap, subst, ◌∙◌, ◌⊎◌, inl, inr, ◌==◌, append_assoc, append-nil, arith, pos, ℤ, ◌-ℤ◌}
+use Rattle.std.proofs.Common.{◌≡◌, ℕ, suc, ◌+◌, ◌-◌, Bool, true, false, cond, ◌||◌, List, [], ◌∷◌, ◌++◌, length, refl, sym, ap, subst, ◌∙◌, inl, inr, ◌==◌, append_assoc, append-nil, arith, pos, ◌-ℤ◌}
 use Rattle.std.proofs.lemmas.Bool.{eqb-true}
 use Rattle.std.specs.Int.Digits.{number_from_digits}
 use Rattle.exact_json.specs.Ascii as ascii
 use Rattle.exact_json.specs.Ascii.{is_blank, is_digit, is_exponent_letter}
 use Rattle.exact_json.specs.Digits.{with_digit}
 use Rattle.exact_json.specs.Decimals.{held, signed, significant}
-use Rattle.exact_json.specs.Grammar.{MoreItems, MoreMembers, Fraction, Exponent, Sign, IsWhole}
 use Rattle.exact_json.specs.Limits.{Limits}
-use Rattle.exact_json.specs.Machine.{Frame, in_list, in_table, Numeral, Phase, after_minus, after_zero, in_whole, after_point, in_fraction, after_letter, after_sign, in_exponent, State, numeral, ended, step_ended, counted, with_whole, with_fraction, with_exponent, with_minus, decimal_so_far, step_first_digit, step_end, step_letter, step_point, step_exponent, step_numeral}
-use Rattle.exact_json.specs.Pieces.{Is, Byte, OneOf, Digits, Blanks}
-use Rattle.exact_json.specs.Tree.{Tree, number, no_item, item, no_pair, pair}
+use Rattle.exact_json.specs.Machine.{Frame, in_list, in_table, Numeral, with_whole, with_fraction, with_exponent, with_minus, decimal_so_far}
+use Rattle.exact_json.specs.Tree.{Tree, no_item, item, no_pair, pair}
 use Rattle.exact_json.specs.declared.decimal.Decimal.{Decimal}
-use Rattle.exact_json.proofs.Ended.{comes_cond, comes_some, comes_none, goes_true, goes_false, goes-ended, comes-ended}
-use Rattle.exact_json.proofs.Left.{Closes, Completes, Goes, Comes, joined, finished, NumeralTo}
+use Rattle.exact_json.proofs.Left.{Closes, joined, finished}
 
 -- Which bytes pass a test.
 

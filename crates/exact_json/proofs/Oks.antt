@@ -1,5 +1,5 @@
 -- What holds of an `Ok` gives what follows from it; and places of lists.
-use Rattle.std.proofs.Common.{◌≡◌, ◌<◌, List, [], ◌∷◌, length, Result, Ok, Err, IfOk, refl, arith, map, get_or, ℕ, zero, suc, Option, Some, ap, sym, ◌∙◌}
+use Rattle.std.proofs.Common.{◌≡◌, ◌<◌, List, [], ◌∷◌, length, Result, Ok, Err, IfOk, refl, arith, map, get_or, ℕ, zero, suc, Some, ap, sym}
 use Rattle.std.specs.List.{slice_get}
 
 pub if_ok_map : {T E : Type 0} (r : Result T E) (P Q : T → Type 0) → ((x : T) → P x → Q x) → IfOk r P → IfOk r Q

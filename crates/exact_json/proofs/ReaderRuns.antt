@@ -1,12 +1,12 @@
 -- What the reader's loop keeps, and what its ends say.
-use Rattle.std.proofs.Common.{◌≡◌, ℕ, zero, suc, ◌+◌, ◌-◌, ◌<◌, ◌≤◌, ◌^◌, Bool, true, false, cond, List, [], ◌∷◌, ◌++◌, length, take, get_or, Option, Some, None, option_and_then, refl, sym, ap, subst, ◌∙◌, ◌⊎◌, inl, inr, nat_lt, nat_le, arith, length-append}
+use Rattle.std.proofs.Common.{◌≡◌, ℕ, zero, suc, ◌+◌, ◌<◌, ◌≤◌, true, false, cond, List, [], ◌∷◌, ◌++◌, length, take, get_or, Option, Some, None, option_and_then, refl, sym, ap, subst, ◌∙◌, inl, inr, arith}
 use Rattle.std.proofs.lemmas.List.{take_more, length-take-le}
 use Rattle.std.proofs.Math.Seq.{take-length}
-use Rattle.std.proofs.lemmas.Bool.{ltb-true, leb-true, leb-false}
+use Rattle.std.proofs.lemmas.Bool.{leb-true, leb-false}
 use Rattle.exact_json.specs.Advance.{IsSound, Goes, Passes, Stops}
 use Rattle.exact_json.specs.Limits.{number_limit_before}
-use Rattle.exact_json.specs.Grammar.{IsJson, IsJsonBy, IsJsonWithin, BeginsJson, StaysWithin}
-use Rattle.exact_json.specs.Machine.{Frame, Numeral, Phase, State, start, mark, value, first_item, first_name, name, colon, after_item, after_member, word, numeral, characters, done, step, run, run_within, is_within, result}
+use Rattle.exact_json.specs.Grammar.{IsJsonBy, IsJsonWithin, BeginsJson}
+use Rattle.exact_json.specs.Machine.{State, start, mark, value, first_item, first_name, name, colon, after_item, after_member, word, numeral, characters, done, step, run, run_within, is_within, result}
 use Rattle.exact_json.specs.Read.{AllGood, IsNotJson, IsTooDeep, IsLongNumber, IsFaultOf}
 use Rattle.exact_json.specs.Seen.{seen_with, IsReady, IsShort}
 use Rattle.exact_json.specs.Tree.{Tree}
@@ -15,11 +15,11 @@ use Rattle.exact_json.specs.declared.machine.Next.{Next}
 use Rattle.exact_json.specs.declared.machine.Next.TheVariants.{Start, Mark, Value, FirstItem, FirstName, Name, Colon, AfterItem, AfterMember, Word, Number, Text, NameText, Done}
 use Rattle.exact_json.specs.declared.fault.JsonFault.{JsonFault}
 use Rattle.exact_json.specs.declared.fault.JsonFault.TheVariants.{NotJson, TooDeep, LongNumber, NoMemory}
-use Rattle.exact_json.proofs.Faults.{accepted, accepts, accepts_any, stays, begins, begins_none, deep_item, deep_name, long_number}
+use Rattle.exact_json.proofs.Faults.{accepts, accepts_any, stays, begins, begins_none, deep_item, deep_name, long_number}
 use Rattle.exact_json.proofs.Kept.{first_step, within-run, within-last, run-sound}
 use Rattle.exact_json.proofs.Sound.{step-sound, IsCounted, step-counted}
 
-some_state : {m n : State} → Some m ≡ Some n → m ≡ n
+pub some_state : {m n : State} → Some m ≡ Some n → m ≡ n
 some_state e = cc
 
 -- one step more
@@ -31,7 +31,7 @@ run_more m k n (x ∷ p) b e s w =
     let f = first_step m k x p e in
     ap (option_and_then (λ i. cond (is_within i) (run_within i (p ++ b ∷ [])) None)) f.1 ∙ (ap (λ c. cond c (run_within f.0 (p ++ b ∷ [])) None) f.2 ∙ run_more f.0 k n p b f.3 s w)
 
-plain_more : (m k : State) (p : List ℕ) (b : ℕ) → run m p ≡ Some k → run m (p ++ b ∷ []) ≡ step k b
+pub plain_more : (m k : State) (p : List ℕ) (b : ℕ) → run m p ≡ Some k → run m (p ++ b ∷ []) ≡ step k b
 plain_more m k [] b e = let same : m ≡ k = cc in ap (λ x. option_and_then Some (step x b)) same ∙ whole (step k b)
   where
     whole : (o : Option State) → option_and_then Some o ≡ o
@@ -43,14 +43,14 @@ plain_more m k (x ∷ p) b e = by (step m x) e (λ n f. plain_more n k p b f)
     by None e f = absurd (cc)
     by (Some n) e f = f n e
 
-front_more : (i : ℕ) (bytes : List ℕ) → i < length bytes → take (i + 1) bytes ≡ take i bytes ++ get_or bytes i 0 ∷ []
+pub front_more : (i : ℕ) (bytes : List ℕ) → i < length bytes → take (i + 1) bytes ≡ take i bytes ++ get_or bytes i 0 ∷ []
 front_more i bytes h = take_more bytes i 0 h
 
 pub turn : (bytes : List ℕ) (i : ℕ) (m n : State) → run_within start (take i bytes) ≡ Some m → i < length bytes → Goes m (get_or bytes i 0) n → run_within start (take (i + 1) bytes) ≡ Some n
 turn bytes i m n e h g = ap (run_within start) (front_more i bytes h) ∙ run_more start m n (take i bytes) (get_or bytes i 0) e g.0 g.1
 
 -- every front of a run is a run
-front_run : (m n : State) (bytes : List ℕ) (k i : ℕ) → k ≤ i → run_within m (take i bytes) ≡ Some n → (j : State) × (run_within m (take k bytes) ≡ Some j)
+pub front_run : (m n : State) (bytes : List ℕ) (k i : ℕ) → k ≤ i → run_within m (take i bytes) ≡ Some n → (j : State) × (run_within m (take k bytes) ≡ Some j)
 front_run m n bytes zero i h e = (m, refl)
 front_run m n bytes (suc k) zero h e = absurd (omega arith)
 front_run m n [] (suc k) (suc i) h e = (m, refl)
@@ -72,7 +72,7 @@ counted_run k m n (b ∷ p) sound c e =
     let r = counted_run (k + 1) f.0 n p (step-sound m b f.0 sound f.1) (step-counted k m b f.0 sound c f.1) f.3 in
     let room : k + 1 + length p ≡ k + length (b ∷ p) = omega arith in subst (λ j. IsCounted j n) room r
 
-within_counted : (m : State) → is_within m ≡ true → IsCounted 64 m
+pub within_counted : (m : State) → is_within m ≡ true → IsCounted 64 m
 within_counted start e = tt
 within_counted (mark ms) e = tt
 within_counted (value frames) e = tt
@@ -87,10 +87,10 @@ within_counted (numeral phase n frames) e = leb-true n.length 64 e
 within_counted (characters role s w frames) e = tt
 within_counted (done v) e = tt
 
-counted_front : (bytes : List ℕ) (i : ℕ) (m : State) → i ≤ length bytes → run_within start (take i bytes) ≡ Some m → IsCounted i m
+pub counted_front : (bytes : List ℕ) (i : ℕ) (m : State) → i ≤ length bytes → run_within start (take i bytes) ≡ Some m → IsCounted i m
 counted_front bytes i m h e = let size : 0 + length (take i bytes) ≡ i = omega (arith, length-take-le i bytes h) in subst (λ j. IsCounted j m) size (counted_run 0 start m (take i bytes) tt tt e)
 
-step_run : (bytes : List ℕ) (i : ℕ) (m : State) (o : Option State) → run_within start (take i bytes) ≡ Some m → i < length bytes → step m (get_or bytes i 0) ≡ o → run start (take (i + 1) bytes) ≡ o
+pub step_run : (bytes : List ℕ) (i : ℕ) (m : State) (o : Option State) → run_within start (take i bytes) ≡ Some m → i < length bytes → step m (get_or bytes i 0) ≡ o → run start (take (i + 1) bytes) ≡ o
 step_run bytes i m o e h s = ap (run start) (front_more i bytes h) ∙ (plain_more start m (take i bytes) (get_or bytes i 0) (within-run start m (take i bytes) e) ∙ s)
 
 -- a list or a table too deep
@@ -160,7 +160,7 @@ stop bytes i m (LongNumber p) e h (k, s, passes) = long_stop bytes i p m k e h s
 stop bytes i m NoMemory e h s = tt
 
 -- a longer run makes the machine's step
-last_step : (m k n : State) (p : List ℕ) (b : ℕ) → run_within m p ≡ Some k → run_within m (p ++ b ∷ []) ≡ Some n → (step k b ≡ Some n) × (is_within n ≡ true)
+pub last_step : (m k n : State) (p : List ℕ) (b : ℕ) → run_within m p ≡ Some k → run_within m (p ++ b ∷ []) ≡ Some n → (step k b ≡ Some n) × (is_within n ≡ true)
 last_step m k n [] b e f =
     let s = first_step m n b [] f in
     let same : m ≡ k = cc in
@@ -196,7 +196,7 @@ passes_beyond (numeral phase n frames) place (LongNumber p) h = h.0
 passes_beyond (characters role u w frames) place fault h = absurd h
 passes_beyond (done v) place fault h = absurd h
 
-stops_no : (m n : State) (b i : ℕ) (fault : JsonFault) → step m b ≡ Some n → is_within n ≡ true → Stops m b i fault → fault ≡ NoMemory
+pub stops_no : (m n : State) (b i : ℕ) (fault : JsonFault) → step m b ≡ Some n → is_within n ≡ true → Stops m b i fault → fault ≡ NoMemory
 stops_no m n b i (NotJson p) s w (none, at) = absurd (cc)
 stops_no m n b i NoMemory s w stops = refl
 stops_no m n b i (TooDeep p) s w (k, is, passes) = let same : n ≡ k = some_state (sym s ∙ is) in let kept = subst (λ x. is_within x ≡ true) same w in let gone = passes_beyond k i (TooDeep p) passes in absurd (cc)

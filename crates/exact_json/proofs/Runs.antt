@@ -1,12 +1,10 @@
 -- Whole runs of the machine: what it accepts, and what the bytes so far begin.
-use Rattle.std.proofs.Common.{◌≡◌, ℕ, suc, ◌+◌, ◌-◌, ◌<◌, ◌≤◌, Bool, true, false, cond, List, [], ◌∷◌, ◌++◌, length, Option, Some, None, option_and_then, refl, sym, ap, subst, ◌∙◌, ◌⊎◌, inl, inr, max, nat_lt, nat_le, arith, append_assoc, append-nil, length-append}
-use Rattle.std.proofs.lemmas.Bool.{ltb-true, leb-true, lt-ltb, le-leb}
-use Rattle.exact_json.specs.Grammar.{IsJsonBy}
-use Rattle.exact_json.specs.Limits.{Limits, no_limits, limits_before}
-use Rattle.exact_json.specs.Machine.{Frame, Numeral, Phase, State, start, mark, value, first_item, first_name, name, colon, after_item, after_member, word, numeral, characters, done, step, run}
+use Rattle.std.proofs.Common.{◌≡◌, ℕ, List, [], ◌∷◌, ◌++◌, Option, Some, None, option_and_then, refl, sym, ap, subst, ◌∙◌}
+use Rattle.exact_json.specs.Limits.{Limits}
+use Rattle.exact_json.specs.Machine.{State, step, run}
 use Rattle.exact_json.specs.Tree.{Tree}
-use Rattle.exact_json.proofs.Left.{Completes, Goes, Comes}
-use Rattle.exact_json.proofs.Steps.{IsFormed, Fits, goes-step, comes-step}
+use Rattle.exact_json.proofs.Left.{Completes}
+use Rattle.exact_json.proofs.Steps.{Fits, goes-step, comes-step}
 use Rattle.exact_json.proofs.Sound.{IsSound, formed, step-sound}
 
 -- The machine goes on wherever the grammar does.

@@ -1,19 +1,19 @@
 -- The steps of a text.
-use Rattle.std.proofs.Common.{◌≡◌, ℕ, Bool, true, false, cond, List, [], ◌∷◌, ◌++◌, Option, Some, None, refl, sym, ap, subst, ◌∙◌, ◌⊎◌, inl, inr, ◌==◌, append_assoc, append-nil, not, arith, ◌&&◌, nat_le}
+use Rattle.std.proofs.Common.{◌≡◌, ℕ, true, false, List, [], ◌∷◌, ◌++◌, refl, sym, ap, subst, ◌∙◌, inl, inr, ◌==◌, append_assoc, append-nil, not, arith, ◌&&◌, nat_le}
 use Rattle.std.proofs.lemmas.Bool.{eqb-true, and_parts}
 use Rattle.std.specs.Char.{encode_utf8}
 use Rattle.std.specs.Str.{encode_utf8_all}
 use lib.Utf8.{scalar}
 use Rattle.exact_json.specs.Ascii as ascii
 use Rattle.exact_json.specs.Limits.{Limits}
-use Rattle.exact_json.specs.Machine.{Frame, Role, as_value, as_name, State, characters, ended_text, step_outcome, step_characters}
-use Rattle.exact_json.specs.Pieces.{Is, Byte, Word}
-use Rattle.exact_json.specs.Texts.{Character, Characters, is_plain}
-use Rattle.exact_json.specs.Tree.{Tree, text, Entry}
+use Rattle.exact_json.specs.Machine.{Frame, Role, as_value, as_name, characters, ended_text, step_outcome, step_characters}
+use Rattle.exact_json.specs.Pieces.{Is, Byte}
+use Rattle.exact_json.specs.Texts.{Character, Characters}
+use Rattle.exact_json.specs.Tree.{Tree, text}
 use Rattle.exact_json.specs.Within.{Within, plain, escape, unit, high, high_escape, low, tail, Outcome, goes_on, ends, refused, after_byte, is_begun}
 use Rattle.exact_json.proofs.CharacterSteps.{word_not, leads_byte, led_byte, LeadsBegun, leads_begun, is_inside, NoQuote}
 use Rattle.exact_json.proofs.Characters.{Leads}
-use Rattle.exact_json.proofs.Ended.{comes_cond, comes_some, comes_none, goes_true, goes_false, ended-Closes, Closes-ended}
+use Rattle.exact_json.proofs.Ended.{comes_cond, comes_some, comes_none, goes_false, ended-Closes, Closes-ended}
 use Rattle.exact_json.proofs.Left.{CharacterRest, ClosesText, CharactersTo, Completes, Goes, Comes}
 
 module _ (limits : Limits) (role : Role) (s : List ℕ) (frames : List Frame) (t : Tree) where

@@ -1,5 +1,5 @@
 -- One digit or byte more where several are to come.
-use Rattle.std.proofs.Common.{◌≡◌, ℕ, zero, suc, ◌-◌, ◌<◌, refl, sym, ap, arith}
+use Rattle.std.proofs.Common.{◌≡◌, ℕ, zero, suc, ◌-◌, ◌<◌, ap, arith}
 use Rattle.exact_json.specs.Within.{after_unit, after_low, after_tail, unit_goes_on, low_goes_on, tail_goes_on}
 
 less_one : (n : ℕ) → n ≡ suc n - 1

@@ -1,6 +1,6 @@
 -- One byte of the machine, with the limits.
-use Rattle.std.specs.Prelude.{◌≡◌, ℕ, ◌+◌, ◌≤◌, Bool, true, false, Option, Some, None, List, length, nat_lt, nat_le}
-use Rattle.exact_json.specs.Machine.{Frame, Numeral, State, first_item, first_name, numeral, characters, step, is_within}
+use Rattle.std.specs.Prelude.{◌≡◌, ℕ, ◌+◌, ◌≤◌, true, false, Some, None, length, nat_lt, nat_le}
+use Rattle.exact_json.specs.Machine.{State, first_item, first_name, numeral, characters, step, is_within}
 use Rattle.exact_json.specs.Within.{is_begun}
 use Rattle.exact_json.specs.declared.fault.JsonFault.{JsonFault}
 use Rattle.exact_json.specs.declared.fault.JsonFault.TheVariants.{NotJson, TooDeep, LongNumber, NoMemory}

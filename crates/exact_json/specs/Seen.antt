@@ -1,5 +1,5 @@
 -- The machine's state as the reader keeps it.
-use Rattle.std.specs.Prelude.{◌≡◌, ℕ, true, false, List, [], ◌∷◌, map, reverse, Option, Some, None, option_map, Result, IfOk, string_bytes, ◌++◌, ◌<◌, ◌≤◌, ◌^◌}
+use Rattle.std.specs.Prelude.{◌≡◌, ℕ, true, false, List, map, reverse, Option, Some, None, option_map, Result, IfOk, string_bytes, ◌++◌, ◌<◌, ◌≤◌, ◌^◌}
 use Rattle.std.specs.Char.{encode_utf8}
 use Rattle.exact_json.specs.Within.{Within, plain, Outcome, goes_on, ends, refused, is_begun}
 use Rattle.no_memory.specs.declared.NoMemory.{NoMemory}

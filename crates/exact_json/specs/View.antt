@@ -1,6 +1,6 @@
 -- The plain tree that a value stands for.
 use Rattle.std.specs.Prelude.{List}
-use Rattle.exact_json.specs.Tree.{Tree, null, flag, number, text, list, table, Entry, list_of, table_of}
+use Rattle.exact_json.specs.Tree.{Tree, null, flag, number, text, Entry, list_of, table_of}
 use Rattle.exact_json.specs.declared.value.Json.{Json, fold-Json}
 use Rattle.exact_json.specs.declared.value.Json.TheOpen.{Json-F, Member-F, JsonList-F, JsonTable-F}
 use Rattle.exact_json.specs.declared.value.JsonList.{JsonList, fold-JsonList}

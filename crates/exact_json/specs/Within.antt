@@ -4,7 +4,7 @@ pub use Rattle.exact_json.specs.declared.within.Within.{Within}
 pub use Rattle.exact_json.specs.declared.within.Within.TheVariants.{Plain as plain, Escape as escape, Unit as unit, High as high, HighEscape as high_escape, Low as low, Tail as tail}
 pub use Rattle.exact_json.specs.declared.within.Outcome.{Outcome}
 pub use Rattle.exact_json.specs.declared.within.Outcome.TheVariants.{GoesOn as goes_on, Ends as ends, Refused as refused}
-use Rattle.std.specs.Prelude.{ℕ, zero, suc, ◌+◌, ◌-◌, ◌*◌, max, Bool, true, false, cond, not, ◌&&◌, ◌==◌, nat_lt, nat_le, Option, Some, None}
+use Rattle.std.specs.Prelude.{ℕ, zero, suc, ◌+◌, ◌-◌, ◌*◌, max, Bool, true, cond, not, ◌&&◌, ◌==◌, nat_lt, nat_le, Option, Some, None}
 use Rattle.std.specs.Char.{digit_value}
 use Rattle.std.specs.Char as char
 use lib.Utf8.{scalar}

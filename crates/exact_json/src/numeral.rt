@@ -7,6 +7,7 @@ ghost use Rattle.exact_json.specs.Digits.{with_digit};
 use crate::decimal::{Decimal, Digits};
 use crate::held::held_exponent;
 use no_memory::NoMemory;
+use sqlite_items::Items;
 use std::alloc::Global;
 
 /// Where in a number the bytes so far end.
@@ -30,7 +31,7 @@ pub struct Numeral {
     pub digits: Digits,
     pub places: u64,
     pub exponent_negative: bool,
-    pub exponent: Digits,
+    pub exponent: Items<u8>,
     pub length: u64,
 }
 
@@ -56,7 +57,7 @@ impl Numeral {
             digits: Digits::new(alloc),
             places: 0,
             exponent_negative: false,
-            exponent: Digits::new(alloc),
+            exponent: Items::new(alloc),
             length: 0,
         }
     }
@@ -70,7 +71,7 @@ impl Numeral {
             digits: Digits::new(alloc),
             places: 0,
             exponent_negative: false,
-            exponent: Digits::new(alloc),
+            exponent: Items::new(alloc),
             length: 1,
         }
     }
@@ -106,7 +107,7 @@ impl Numeral {
         requires room { self.old.length < 2 ^ 32 }
         ensures { OnOk result (self.new ≡ with_whole self.old b) }
     {
-        self.digits.push_significant(b - b'0')?;
+        self.digits.push(b - b'0')?;
         self.length += 1;
         Ok(())
     }
@@ -117,7 +118,7 @@ impl Numeral {
         requires places { self.old.places < 2 ^ 32 }
         ensures { OnOk result (self.new ≡ with_fraction self.old b) }
     {
-        self.digits.push_significant(b - b'0')?;
+        self.digits.push(b - b'0')?;
         self.places += 1;
         self.length += 1;
         Ok(())

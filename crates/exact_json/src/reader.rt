@@ -1,10 +1,11 @@
 //! A whole text.
 
-ghost use Rattle.std.specs.Prelude.{◌≡◌, ◌<◌, ◌≤◌, ◌+◌, ◌^◌, ℕ, true, length, IfOk, IfErr, MatchOption};
+ghost use Rattle.std.specs.Prelude.{◌≡◌, ◌<◌, ◌≤◌, ◌+◌, ◌^◌, ℕ, true, length, IfOk, IfErr, MatchOption, MatchResult, Ok, Err, ◌⊎◌};
 ghost use Rattle.exact_json.specs.Advance.{Goes, IsSound, Passes, Stops};
 ghost use Rattle.exact_json.specs.Grammar.{IsJsonWithin};
 ghost use Rattle.exact_json.specs.Machine.{start, is_within, run_within};
 ghost use Rattle.exact_json.specs.Read.{IsFaultOf};
+ghost use Rattle.exact_json.specs.Readings.{Reading};
 ghost use Rattle.exact_json.specs.Seen.{seen_with, IsReady, IsShort};
 ghost use Rattle.exact_json.specs.Tree.{Tree};
 ghost use Rattle.exact_json.specs.View.{tree_of};
@@ -85,6 +86,8 @@ pub fn read(alloc: Global, bytes: &[u8]) -> Result<Json, JsonFault>
     ensures refused { IfErr result (λ fault. (t : Tree) → IsJsonWithin t bytes.now → fault ≡ JsonFault.NoMemory) }
     // Each other fault is the first, and its place exact.
     ensures fault { IfErr result (IsFaultOf bytes.now) }
+    // But for want of memory, the answer is what the bytes are as JSON.
+    ensures reading { MatchResult result (λ v. Reading bytes.now (Ok (tree_of v))) (λ fault. (fault ≡ JsonFault.NoMemory) ⊎ Reading bytes.now (Err fault)) }
 {
     let mut machine = Machine::new(alloc);
     let mut next = Next::Start;

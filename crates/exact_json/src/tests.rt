@@ -73,6 +73,23 @@ fn answer(alloc: Global, bytes: &[u8]) -> Result<String, AllocError> {
     }
 }
 
+fn millionths(alloc: Global, text: &str) -> Result<String, AllocError> {
+    match read(alloc, text.as_bytes()) {
+        Ok(Json::Number(decimal)) => decimal.micro().to_string(alloc),
+        _ => String::from_str(alloc, "no number"),
+    }
+}
+
+fn whole(alloc: Global, text: &str) -> Result<String, AllocError> {
+    match read(alloc, text.as_bytes()) {
+        Ok(Json::Number(decimal)) => match decimal.whole() {
+            Some(n) => n.to_string(alloc),
+            None => String::from_str(alloc, "none"),
+        },
+        _ => String::from_str(alloc, "no number"),
+    }
+}
+
 #[test]
 fn texts_give_their_trees(rt: HostRuntime) -> Result<(), Fail> {
     for (text, want) in [
@@ -87,6 +104,41 @@ fn texts_give_their_trees(rt: HostRuntime) -> Result<(), Fail> {
         ("\"\\ud83d\\ude00\"", "'f09f9880'"),
     ] {
         let got = answer(rt.alloc(), text.as_bytes())?;
+        assert_eq!(rt; got.as_str(), want, "at {text}");
+    }
+    Ok(())
+}
+
+#[test]
+fn millionths_are_rounded_half_away_from_zero(rt: HostRuntime) -> Result<(), Fail> {
+    for (text, want) in [
+        ("46.712345678901234", "46712346"),
+        ("1.25e1", "12500000"),
+        ("-0.0000005", "-1"),
+        ("0.0000004999", "0"),
+        ("-0", "0"),
+        ("999999999.9999994", "999999999999999"),
+        ("1e-1000000", "0"),
+        ("-1e1000000", "-1000000000000000"),
+    ] {
+        let got = millionths(rt.alloc(), text)?;
+        assert_eq!(rt; got.as_str(), want, "at {text}");
+    }
+    Ok(())
+}
+
+#[test]
+fn whole_numbers_have_no_fraction_and_are_within_the_bound(rt: HostRuntime) -> Result<(), Fail> {
+    for (text, want) in [
+        ("-150e-1", "-15"),
+        ("1.5", "none"),
+        ("0.00e-7", "0"),
+        ("1e15", "1000000000000000"),
+        ("-1000000000000001", "none"),
+        ("1e1000000", "none"),
+        ("1e-1000000", "none"),
+    ] {
+        let got = whole(rt.alloc(), text)?;
         assert_eq!(rt; got.as_str(), want, "at {text}");
     }
     Ok(())

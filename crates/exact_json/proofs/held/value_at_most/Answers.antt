@@ -1,4 +1,4 @@
-use Rattle.std.proofs.Common.{◌≡◌, ◌∙◌, sym, ap, get_or, min, ◌^◌, ◌+◌, ◌*◌, take}
+use Rattle.std.proofs.Common.{◌∙◌, sym, ap, get_or, min, ◌^◌, ◌+◌, ◌*◌, take}
 use Rattle.std.specs.Int.Digits.{number_from_digits}
 use Rattle.std.proofs.lemmas.Int.Digits.{number_more}
 use Rattle.exact_json.proofs.HeldLemmas.{min_more}

@@ -1,4 +1,4 @@
-use Rattle.std.proofs.Common.{◌≡◌, ℕ, List, [], Option, option_map, IfOk, sym, ap, subst, ◌∙◌}
+use Rattle.std.proofs.Common.{◌≡◌, ℕ, List, [], Option, option_map, sym, ap, ◌∙◌}
 use Rattle.exact_json.specs.Machine as spec
 use Rattle.exact_json.specs.Seen.{frames_of, state_of, literal_of}
 use Rattle.exact_json.specs.View.{tree_of}

@@ -1,4 +1,4 @@
-use Rattle.std.proofs.Common.{◌≡◌, ℕ, List, [], Option, option_map, sym, ap, ◌∙◌}
+use Rattle.std.proofs.Common.{◌≡◌, [], Option, option_map, sym, ap, ◌∙◌}
 use Rattle.exact_json.specs.Machine as spec
 use Rattle.exact_json.specs.Seen.{frames_of, seen_with}
 use Rattle.exact_json.specs.declared.machine.Next.{Next}

@@ -1,6 +1,7 @@
 use Rattle.std.proofs.Common.{arith}
 use Rattle.exact_json.specs.Seen.{seen_with}
 use Rattle.exact_json.proofs.ReaderRuns.{before, turn, stop, stop_refuses}
+use Rattle.exact_json.proofs.Readings.{fault_reading}
 use Rattle.exact_json.proofs.reader.read.Goals as goal
 
 pub advance-requires-clause-ready : goal.advance-requires-clause-ready
@@ -21,3 +22,7 @@ returns-in-Err-clause-refused c = stop_refuses c.args.bytes.now c.loop-place.pla
 
 pub returns-in-Err-clause-fault : goal.returns-in-Err-clause-fault
 returns-in-Err-clause-fault c = stop c.args.bytes.now c.loop-place.place (seen_with c.loop-place.machine c.loop-place.next) c.in-Err.fault c.loop-place.invariant (omega arith) c.in-Err.ensures.err
+
+pub returns-in-Err-clause-reading : goal.returns-in-Err-clause-reading
+returns-in-Err-clause-reading c =
+    fault_reading c.args.bytes.now c.in-Err.fault (stop c.args.bytes.now c.loop-place.place (seen_with c.loop-place.machine c.loop-place.next) c.in-Err.fault c.loop-place.invariant (omega arith) c.in-Err.ensures.err)
