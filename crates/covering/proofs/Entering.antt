@@ -1,0 +1,79 @@
+-- The entry of a tree, by its refuted rank and its first open leaf.
+use Rattle.std.proofs.Common.{◌≡◌, ℕ, ◌+◌, ◌<◌, ◌≤◌, Bool, true, false, cond, eqb, ltb, List, Option, Some, None, refl, sym, ap, ◌∙◌, subst, arith, rules}
+use Rattle.std.specs.Prelude.{◌&&◌, IfSome}
+use Rattle.std.proofs.lemmas.Bool.Decides.{nat_tests}
+use Rattle.cell_split.specs.declared.cell.Cell.{Cell}
+use Rattle.cell_split.specs.declared.verdict.Entry.TheVariants.{Minute, Never, Whole}
+use Rattle.cell_split.specs.declared.verdict.Leaf.{Leaf}
+use Rattle.cell_split.specs.Cells.{IsCellOf}
+use Rattle.cell_split.specs.Entries.{decided, entry_by, first_open, is_open_above, last_word, open_word}
+use Rattle.cell_split.specs.Judges.{Content, IsLawful, IsTask}
+use Rattle.cell_split.specs.Tree.{IsLeafOf, root_task, top}
+use Rattle.cell_split.specs.Verdicts.{is_open}
+use Rattle.cell_split.proofs.Every.{Every-all, Every-both, by_test}
+use Rattle.cell_split.proofs.LeafLemmas.{IsUnder, leaves_in_tree}
+use Rattle.covering.specs.Entries.{IsEntryIn, IsOpenIn}
+use Rattle.covering.specs.Seeks.{open_of}
+use Rattle.covering.specs.Settles.{leaves_of, refuted_word_of}
+use Rattle.covering.proofs.Greatest.{greatest_above}
+use Rattle.covering.proofs.Harvested.{greatest_in_frame, leaves_in_root}
+use Rattle.covering.proofs.Walking.{and_parts, find_none, found_has}
+
+-- no leaf has the word 0
+pub none_open : (ls : List Leaf) → first_open 0 ls ≡ None
+none_open ls =
+    find_none (λ l. is_open l.verdict && eqb (last_word l) 0) ls (Every-all (λ l. (is_open l.verdict && eqb (last_word l) 0) ≡ false) ls (λ l. no_word (is_open l.verdict) l.task.cell.last))
+  where
+    no_word : (b : Bool) (last : ℕ) → (b && eqb (last + 1) 0) ≡ false
+    no_word true last = grind (arith, nat_tests)
+    no_word false last = refl
+
+-- what the first open leaf is: a leaf of the tree in its root, open at the greatest open rank
+record IsFirstOpen (c : Content) (k : ℕ) (l : Leaf) : Type 0 where
+  under : IsUnder (root_task c k) l
+  leaf : IsLeafOf c l
+  opens : is_open l.verdict ≡ true
+  last : last_word l ≡ open_word (refuted_word_of c k) (leaves_of c k)
+
+first_open_is : (c : Content) (k : ℕ) (l : Leaf) → IsLawful c → k < c.problems → Some l ≡ open_of (leaves_of c k) → IsFirstOpen c k l
+first_open_is c k l law known e =
+    let ls = leaves_of c k in
+    let word = open_word (refuted_word_of c k) ls in
+    let each = Every-both (IsUnder (root_task c k)) (IsLeafOf c) ls (leaves_in_root c k law known) (leaves_in_tree c (root_task c k) (top k known)) in
+    let has = found_has (λ l. IsUnder (root_task c k) l × IsLeafOf c l) (λ l. is_open l.verdict && eqb (last_word l) word) ls l each e in
+    let test = and_parts (is_open l.verdict) (eqb (last_word l) word) has.1 in
+    record { under = has.0.0; leaf = has.0.1; opens = test.0; last = let same = test.1 in grind (arith, nat_tests) }
+
+-- its rank is the frame's
+pub open_in_frame : (c : Content) (k : ℕ) (o : Option Leaf) → IsLawful c → k < c.problems → o ≡ open_of (leaves_of c k) → IfSome o (λ l. last_word l ≤ 721)
+open_in_frame c k None law known e = search rules
+open_in_frame c k (Some l) law known e = let h = (first_open_is c k l law known e).under.formed.in_frame in omega arith
+
+decided_in_root : (root : Cell) (word : ℕ) → word ≤ 721 → IsEntryIn root (decided word)
+decided_in_root root word h =
+    by_test (IsEntryIn root) (eqb word 0) Whole (cond (eqb word 721) Never (Minute word)) (λ e. tt)
+    (λ some. by_test (IsEntryIn root) (eqb word 721) Never (Minute word) (λ e. tt) (λ most. (grind (arith, nat_tests), grind (arith, nat_tests))))
+
+open_in_root : (c : Content) (k : ℕ) (l : Leaf) → IsLawful c → k < c.problems → Some l ≡ open_of (leaves_of c k) → IsOpenIn c.root (last_word l) (refuted_word_of c k) l.task.cell
+open_in_root c k l law known e =
+    let is = first_open_is c k l law known e in
+    let word = refuted_word_of c k in
+    let cell : IsCellOf c.root l.task.cell = record { formed = is.under.formed; inside = is.under.inside } in
+    let task : IsTask c l.task = record { known = subst (λ (n : ℕ). n < c.problems) (sym is.under.same) known; cell = cell } in
+    let frame = is.under.formed.in_frame in
+    let last = is.last in
+    let above : word < open_word word (leaves_of c k) =
+    greatest_above (is_open_above word) word (leaves_of c k) (λ l h. let later = (and_parts (is_open l.verdict) (ltb word (last_word l)) h).1 in grind (arith, nat_tests)) (omega arith) in
+    record {
+      in_frame = omega arith;
+      ordered = omega arith;
+      of_root = cell;
+      smallest = law.open_last l.task task (ap is_open (sym is.leaf.judged) ∙ is.opens);
+      rank = refl;
+    }
+
+-- the entry lies in the root
+pub entry_in_root : (c : Content) (k : ℕ) (o : Option Leaf) → IsLawful c → k < c.problems → o ≡ open_of (leaves_of c k) → IsEntryIn c.root (entry_by (refuted_word_of c k) o)
+entry_in_root c k None law known e =
+    decided_in_root c.root (refuted_word_of c k) (greatest_in_frame _ c k law known)
+entry_in_root c k (Some l) law known e = open_in_root c k l law known e

@@ -1,0 +1,7 @@
+pub mod Entering
+pub mod Greatest
+pub mod Harvested
+pub mod Parts
+pub mod Refuting
+pub mod Spelling
+pub mod Walking

@@ -1,0 +1,59 @@
+-- The refuted leaf that is named: there is one exactly where a rank is refuted.
+use Rattle.std.proofs.Common.{◌≡◌, ℕ, zero, suc, ◌+◌, ◌<◌, Bool, true, false, not, eqb, List, find, Option, Some, None, refl, sym, ap, ◌∙◌, pos, neg_ℤ, arith}
+use Rattle.std.specs.Prelude.{◌&&◌}
+use Rattle.std.specs.Option.{is_none, is_some, option_and_then}
+use Rattle.std.specs.Ordering.{int_eq}
+use Rattle.std.proofs.lemmas.Bool.Decides.{Decides-int_eq, nat_tests}
+use Rattle.std.proofs.lemmas.Int.{ints}
+use Rattle.cell_split.specs.declared.verdict.Leaf.{Leaf}
+use Rattle.cell_split.specs.declared.verdict.Verdict.{Verdict}
+use Rattle.cell_split.specs.declared.verdict.Verdict.TheVariants.{Outside, Proved, Refuted, Split, Open}
+use Rattle.cell_split.specs.Entries.{last_word, refuted_word}
+use Rattle.cell_split.specs.Verdicts.{is_refuted}
+use Rattle.cell_split.proofs.Every.{Every-all}
+use Rattle.covering.specs.Refuted.{first_refuted, rank_of, refuted_at}
+use Rattle.covering.proofs.Walking.{and_parts, found_has}
+use Rattle.covering.proofs.Greatest.{greatest_found}
+use Rattle.covering.proofs.Walking.{find_none}
+
+-- no leaf has the word 0
+pub none_refuted : (ls : List Leaf) → first_refuted 0 ls ≡ None
+none_refuted ls =
+    ap (option_and_then refuted_at) (find_none (λ l. is_refuted l.verdict && eqb (last_word l) 0) ls (Every-all (λ l. (is_refuted l.verdict && eqb (last_word l) 0) ≡ false) ls (λ l. no_word (is_refuted l.verdict) l.task.cell.last)))
+  where
+    no_word : (b : Bool) (last : ℕ) → (b && eqb (last + 1) 0) ≡ false
+    no_word true last = grind (arith, nat_tests)
+    no_word false last = refl
+
+-- a refuted leaf has a place that refutes it
+has_point : (l : Leaf) → is_refuted l.verdict ≡ true → is_some (refuted_at l) ≡ true
+has_point l h = step l.verdict h
+  where
+    step : (v : Verdict) → is_refuted v ≡ true → is_some (refuted_at (record { task = l.task; verdict = v })) ≡ true
+    step (Refuted p) h = refl
+    step Outside h = h
+    step Proved h = h
+    step Split h = h
+    step (Open p) h = h
+
+some_refuted : (word : ℕ) (ls : List Leaf) → refuted_word ls ≡ word → 0 < word → is_some (first_refuted word ls) ≡ true
+some_refuted word ls e h =
+    step (find (λ l. is_refuted l.verdict && eqb (last_word l) word) ls) refl (greatest_found (λ l. is_refuted l.verdict) word ls e h)
+  where
+    step : (o : Option Leaf) → o ≡ find (λ l. is_refuted l.verdict && eqb (last_word l) word) ls → is_some o ≡ true → is_some (option_and_then refuted_at o) ≡ true
+    step None e h = h
+    step (Some l) e h =
+        let has = found_has (λ l. Unit {0}) (λ l. is_refuted l.verdict && eqb (last_word l) word) ls l (Every-all (λ l. Unit {0}) ls (λ l. tt)) e in
+        has_point l (and_parts (is_refuted l.verdict) (eqb (last_word l) word) has.1).0
+
+-- there is one exactly where a rank is refuted
+pub refuted_shown : (word : ℕ) (ls : List Leaf) → word ≡ refuted_word ls → is_none (first_refuted word ls) ≡ int_eq (rank_of word) (neg_ℤ (pos 1))
+refuted_shown zero ls e = ap is_none (none_refuted ls)
+refuted_shown (suc n) ls e =
+    let some = ap not (some_refuted (suc n) ls (sym e) (omega arith)) in
+    let later : int_eq (rank_of (suc n)) (neg_ℤ (pos 1)) ≡ false = not_true _ (λ h. let same = (Decides-int_eq (rank_of (suc n)) (neg_ℤ (pos 1))).0 h in omega (arith, ints)) in
+    some ∙ sym later
+  where
+    not_true : (b : Bool) → (b ≡ true → ⊥) → b ≡ false
+    not_true true h = absurd (h refl)
+    not_true false h = refl

@@ -1,0 +1,6 @@
+pub mod Letters
+pub mod Refuted
+pub mod Seeks
+pub mod Entries
+pub mod Settles
+pub mod Laws

@@ -1,0 +1,110 @@
+// The entry of a tree, from a harvest.
+ghost use Rattle.std.specs.Prelude.{◌≡◌, ◌+◌, ◌<◌, ◌≤◌, max, slice_get, IfSome, Some};
+ghost use Rattle.cell_split.specs.Entries.{decided, entry_by, entry_of, greatest_word, last_word};
+ghost use Rattle.steal_pool.specs.Harvests.{IsHarvest, word_of};
+ghost use Rattle.covering.specs.Entries.{IsEntryIn};
+ghost use Rattle.covering.specs.Seeks.{is_open_of, open_of};
+ghost use Rattle.covering.specs.Settles.{leaves_of};
+
+use crate::leaf_walk::{Sought, first_leaf};
+use crate::letter_walk::is_cut;
+use cell_split::{Entry, Judge, Leaf, Task, Verdict};
+use steal_pool::Harvest;
+
+/// The entry of problem `k`, from the harvest of a search for this judge. Where a rank above the refuted
+/// one is open, the cells at that rank are judged anew up to the first open one, since a harvest is in
+/// no order. It takes no memory.
+pub fn entry_of<J: Judge>(judge: &J, harvest: &Harvest, k: u32) -> Entry
+    requires harvest { IsHarvest (J.content judge.now) harvest.now.refuted harvest.now.leaves }
+    requires known { k < (J.content judge.now).problems }
+    ensures value { result ≡ entry_of (leaves_of (J.content judge.now) k) }
+    ensures in_root { IsEntryIn (J.content judge.now).root result }
+{
+    let refuted = harvest.refuted_rank(k);
+    entry_by(refuted, first_open(judge, harvest, k, refuted))
+}
+
+// the first open leaf at the greatest open rank above the refuted rank
+fn first_open<J: Judge>(judge: &J, harvest: &Harvest, k: u32, refuted: Option<u32>) -> Option<Leaf>
+    requires harvest { IsHarvest (J.content judge.now) harvest.now.refuted harvest.now.leaves }
+    requires known { k < (J.content judge.now).problems }
+    requires refuted { slice_get harvest.now.refuted k ≡ Some refuted }
+    ensures { result ≡ open_of (leaves_of (J.content judge.now) k) }
+{
+    let root = Task {
+        problem: k,
+        cell: judge.root(),
+    };
+    first_leaf(judge, root, Sought::Open, open_rank(harvest, k, refuted)?)
+}
+
+// the greatest open rank of a problem above its refuted rank
+fn open_rank(harvest: &Harvest, k: u32, refuted: Option<u32>) -> Option<u32>
+    ensures { word_of result ≡ greatest_word (is_open_of k (word_of refuted)) harvest.now.leaves }
+{
+    let mut open = None;
+    for i in 0..harvest.leaf_count() {
+        let leaf = harvest.leaf(i);
+        if is_open_of(&leaf, k, refuted) {
+            open = Some(later(open, leaf.task.cell.last));
+        }
+    }
+    open
+}
+
+// whether a leaf is an open one of the problem, above its refuted rank
+fn is_open_of(leaf: &Leaf, k: u32, refuted: Option<u32>) -> bool
+    ensures { result ≡ is_open_of k (word_of refuted) leaf.now }
+{
+    let is_open = matches!(leaf.verdict, Verdict::Open(_));
+    leaf.task.problem == k && is_open && !is_cut(&leaf.task.cell, refuted)
+}
+
+// the later of two ranks
+fn later(known: Option<u32>, rank: u32) -> u32
+    ensures { result + 1 ≡ max (word_of known) (rank + 1) }
+{
+    match known {
+        Some(known) => known.max(rank),
+        None => rank,
+    }
+}
+
+// the entry of this refuted rank, where this is the first open leaf
+fn entry_by(refuted: Option<u32>, first: Option<Leaf>) -> Entry
+    requires refuted { word_of refuted ≤ 721 }
+    requires first { IfSome first (λ l. last_word l ≤ 721) }
+    ensures { result ≡ entry_by (word_of refuted) first }
+{
+    match first {
+        Some(leaf) => Entry::Open {
+            safe: leaf.task.cell.last + 1,
+            from: rank_after(refuted),
+            cell: leaf.task.cell,
+        },
+        None => decided(refuted),
+    }
+}
+
+// the entry where nothing is open above the refuted rank
+fn decided(refuted: Option<u32>) -> Entry
+    requires { word_of refuted ≤ 721 }
+    ensures { result ≡ decided (word_of refuted) }
+{
+    match refuted {
+        None => Entry::Whole,
+        Some(720) => Entry::Never,
+        Some(rank) => Entry::Minute { rank: rank + 1 },
+    }
+}
+
+// the first rank after the refuted ones
+fn rank_after(refuted: Option<u32>) -> u32
+    requires { word_of refuted ≤ 721 }
+    ensures { result ≡ word_of refuted }
+{
+    match refuted {
+        Some(rank) => rank + 1,
+        None => 0,
+    }
+}
