@@ -1,0 +1,14 @@
+pub mod AngleLemmas
+pub mod Entries
+pub mod EntryLaws
+pub mod ExtentLemmas
+pub mod InBounds
+pub mod JudgeLemmas
+pub mod NamedLemmas
+pub mod PointLemmas
+pub mod SkyLaws
+pub mod TruthLemmas
+pub mod VerdictLemmas
+pub mod StripLemmas
+pub mod TileLemmas
+pub mod DayLaws

@@ -1,0 +1,13 @@
+pub mod Conditions
+pub mod Scenes
+pub mod RightEntries
+pub mod EntryLaws
+pub mod Limits
+pub mod Points
+pub mod Strips
+pub mod Tiles
+pub mod Skies
+pub mod Lawful
+pub mod SkyLaws
+pub mod DayLaws
+pub mod Made

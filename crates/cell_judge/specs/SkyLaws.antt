@@ -1,0 +1,57 @@
+-- What is true of the judge of the sky, as sentences.
+use Rattle.std.specs.Prelude.{◌≡◌, ℕ, ◌<◌, ◌≤◌, pos, ◌+ℤ◌, List, length, map, None, unsigned_abs}
+use Rattle.fixed_interval.specs.Grid.{Range}
+use Rattle.solar_terms.specs.Sun.{SunTerms, exact_sun}
+use Rattle.solar_terms.specs.SunLaws.{SunSource, IsSunSource, GridHoldsSun}
+use Rattle.solar_terms.specs.SunWidths.{IsNarrowSun}
+use Rattle.method_table.specs.declared.problem.Problem.{Problem}
+use Rattle.method_table.specs.Kind.{IsKind}
+use Rattle.method_table.specs.Row.{Row, row_of}
+use Rattle.region.specs.Rings.{Polygon}
+use Rattle.region.specs.Faults.{first_fault}
+use Rattle.cell_split.specs.declared.cell.Cell.{Cell}
+use Rattle.cell_split.specs.Cells.{IsCell, IsRoot}
+use Rattle.cell_judge.specs.EntryLaws.{LiesInRoot, TellsTruth}
+use Rattle.cell_judge.specs.Limits.{AreInLimits, IsInLimits, IsOver}
+use Rattle.cell_judge.specs.Scenes.{Scene, IsTrueVerdict}
+use Rattle.cell_judge.specs.Skies.{row_at, sky_content, verdict_on}
+
+-- a sun, and its terms on the grid, which hold it and are narrow at one minute
+pub record IsSun (sun : SunSource) (grid : Range → SunTerms) : Type 0 where
+  pub source : IsSunSource sun
+  pub holds : GridHoldsSun sun grid
+  pub narrow : (r : Range) → r.hi ≡ r.lo → unsigned_abs r.lo ≤ 53_200_000 → IsNarrowSun (grid r)
+
+-- a row like those of the table: its condition in range, and a frame of 720 minutes within the limits of the sun
+pub record IsRow (row : Row) : Type 0 where
+  pub kind : IsKind row.kind
+  pub framed : row.last ≡ row.first +ℤ pos 720
+  pub limits : IsInLimits row
+
+-- under every sun the verdict on each cell is true
+abbrev pub VerdictsOfEverySunAreTrue : Type 0
+VerdictsOfEverySunAreTrue =
+    (sun : SunSource) (grid : Range → SunTerms) → IsSun sun grid → (row : Row) → IsRow row →
+    (polygons : List Polygon) → first_fault polygons ≡ None → (cell : Cell) → IsCell cell →
+    IsTrueVerdict (record { sun = sun; row = row; polygons = polygons }) cell (verdict_on grid row polygons cell)
+
+-- a problem over a district under the sun of the US Naval Observatory
+abbrev pub scene_at : List Polygon → List Row → ℕ → Scene
+scene_at polygons rows k = record { sun = exact_sun; row = row_at rows k; polygons = polygons }
+
+-- the verdicts of a sky are true
+abbrev pub SkiesTellTheTruth : Type 0
+SkiesTellTheTruth =
+    (polygons : List Polygon) (rows : List Row) (root : Cell) → first_fault polygons ≡ None → IsRoot root →
+    (k : ℕ) → k < length rows → IsRow (row_at rows k) →
+    TellsTruth (sky_content polygons rows root) k (scene_at polygons rows k)
+
+-- the problems of a sky are such rows
+abbrev pub ProblemsAreRows : Type 0
+ProblemsAreRows =
+    (problems : List Problem) → AreInLimits problems →
+    (k : ℕ) → k < length (map row_of problems) → IsRow (row_at (map row_of problems) k)
+
+-- every place of a district lies in the box of a root that is over its positions
+abbrev pub DistrictsLieInRootsOverThem : Type 0
+DistrictsLieInRootsOverThem = (s : Scene) (root : Cell) → first_fault s.polygons ≡ None → IsOver root s.polygons → LiesInRoot s root

@@ -1,0 +1,129 @@
+// What a sky is made of, and how it judges.
+ghost use Rattle.std.specs.Prelude.{◌≡◌, ◌<◌, IfOk, slice_get};
+ghost use Rattle.solar_terms.specs.Sun.{grid_sun};
+ghost use Rattle.method_table.specs.Row.{row_of};
+ghost use Rattle.region.specs.Extent.{latitudes, least, longitudes};
+ghost use Rattle.region.specs.Faults.{first_fault};
+ghost use Rattle.cell_split.specs.Cells.{IsCell, IsRoot, root_at};
+ghost use Rattle.cell_judge.specs.Limits.{AreInLimits, IsInLimits, IsOver};
+ghost use Rattle.cell_judge.specs.Made.{IsSkyOf};
+ghost use Rattle.cell_judge.specs.Skies.{verdict_with};
+
+use crate::sky::Sky;
+use crate::tiles::tables;
+use crate::values::{minutes_at, places_at, value};
+use crate::verdicts::verdict_at;
+use cell_split::{Cell, Judge, Task, Verdict, rect_of, root_at};
+use method_table::Problem;
+use no_memory::NoMemory;
+use region::{District, Point};
+use std::alloc::Global;
+
+/// The root at the least longitude and the least latitude of a district.
+pub(crate) fn root_over(district: &District) -> Cell
+    requires { first_fault district.now ≡ None }
+    ensures value { result ≡ root_at (least (longitudes district.now)) (least (latitudes district.now)) }
+    ensures root { IsRoot result }
+    ensures over { IsOver result district.now }
+{
+    root_at(district.west(), district.south())
+}
+
+impl Sky {
+    /// The sky over a district for the problems of a day, with the root at its least longitude and
+    /// least latitude. Every minute of their frames is within 53,200,000 minutes of 2000-01-01 12:00
+    /// Universal Time. That a district has no fault is known where it was made.
+    pub fn new(alloc: Global, district: District, problems: [Problem; 7]) -> Result<Sky, NoMemory>
+        requires sound { first_fault district ≡ None }
+        requires limits { AreInLimits problems }
+        ensures { IfOk result
+            (IsSkyOf district problems (root_at (least (longitudes district)) (least (latitudes district)))) }
+    {
+        let root = root_over(&district);
+        Sky::new_in(alloc, district, problems, root)
+    }
+
+    /// The same with a root that is given, in whose box the district lies. After `NoMemory` the
+    /// district is given up.
+    pub fn new_in(
+        alloc: Global,
+        district: District,
+        problems: [Problem; 7],
+        root: Cell,
+    ) -> Result<Sky, NoMemory>
+        requires root { IsRoot root }
+        requires over { IsOver root district }
+        requires limits { AreInLimits problems }
+        ensures { IfOk result (IsSkyOf district problems root) }
+    {
+        let strips = district.strips(alloc, root.y)?;
+        let large = tables(alloc, &district, &root)?;
+        Ok(Sky {
+            district,
+            strips,
+            large,
+            problems,
+            root,
+        })
+    }
+
+    /// Turns to the problems of another day, under the same condition on their minutes.
+    pub fn turn_to(&mut self, problems: [Problem; 7])
+        requires { AreInLimits problems }
+        ensures { IsSkyOf self.old.district problems self.old.root self.new }
+    {
+        self.problems = problems;
+    }
+
+    /// The district.
+    pub fn district(&self) -> &District
+        ensures { result.now ≡ self.now.district }
+    {
+        &self.district
+    }
+
+    /// The problem of this number, from 0 to 6.
+    pub fn problem(&self, k: u32) -> Problem
+        requires { k < 7 }
+        ensures { slice_get self.now.problems k ≡ Some result }
+    {
+        self.problems[k as usize]
+    }
+}
+
+// The verdict on a cell whose box has the place `p` of the district.
+fn verdict_for(problem: &Problem, cell: &Cell, p: Point) -> Verdict
+    requires cell { IsCell cell.now }
+    requires limits { IsInLimits (row_of problem.now) }
+    ensures { result ≡ verdict_with grid_sun (row_of problem.now) cell.now p }
+{
+    let minutes = minutes_at(problem, cell);
+    let value = value(problem.kind, minutes, places_at(cell));
+    verdict_at(problem.kind, value, cell, p)
+}
+
+impl Judge for Sky {
+    ghost use Rattle.std.specs.Prelude.{map};
+    ghost use Rattle.method_table.specs.Row.{row_of};
+    ghost use Rattle.cell_judge.specs.Skies.{sky_content};
+    ghost use Rattle.cell_judge.specs.Lawful.{skies_are_lawful};
+
+    ghost content = { λ sky. sky_content sky.district (map row_of sky.problems) sky.root };
+
+    ghost lawful = { λ sky. skies_are_lawful sky.district (map row_of sky.problems) sky.root sky.is_root };
+
+    fn problems(&self) -> u32 {
+        7
+    }
+
+    fn root(&self) -> Cell {
+        self.root
+    }
+
+    fn judge(&self, t: Task) -> Verdict {
+        match self.named(&t.cell) {
+            Some(p) => verdict_for(&self.problems[t.problem as usize], &t.cell, p),
+            None => Verdict::Outside,
+        }
+    }
+}

@@ -1,0 +1,15 @@
+// The judge of the real sky over a district: whether a prayer's condition holds at every place of a cell at every rank.
+// Contract: a verdict is that of the district's named point and the enclosure of the condition's value on the grid.
+#![tactic(auto)]
+
+mod judge;
+pub mod laws;
+mod named;
+mod sky;
+#[cfg(test)]
+mod tests;
+mod tiles;
+mod values;
+mod verdicts;
+
+pub use sky::Sky;

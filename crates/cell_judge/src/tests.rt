@@ -1,0 +1,354 @@
+// Verdicts of skies beside those of a slow reference program and the worked table of one place.
+ghost use Rattle.std.specs.Prelude.{◌≡◌, None, IfOk, neg_ℤ, pos, ◌≤ℤ◌};
+ghost use Rattle.region.specs.Faults.{first_fault};
+ghost use Rattle.cell_judge.specs.Limits.{AreInLimits};
+
+use crate::Sky;
+use crate::judge::root_over;
+use cell_split::{Cell, Judge, Task, Verdict, root_at, within};
+use method_table::{Asr, Method, Problem, problems};
+use region::{District, RegionFault};
+use std::alloc::Global;
+use std::process::Abort;
+use std::test::Fail;
+
+// 2000-01-01, counted from 1970-01-01.
+const DAY: i32 = 10_957;
+
+// One place, 0.1 degrees east on the equator, as a ring of four equal positions.
+const POINT: &[&[(i64, i64)]] = &[&[(100_000, 0), (100_000, 0), (100_000, 0), (100_000, 0)]];
+
+// A square of four degrees with a hole of two.
+const SQUARE: &[&[(i64, i64)]] = &[
+    &[
+        (0, 0),
+        (4_000_000, 0),
+        (4_000_000, 4_000_000),
+        (0, 4_000_000),
+        (0, 0),
+    ],
+    &[
+        (1_000_000, 1_000_000),
+        (3_000_000, 1_000_000),
+        (3_000_000, 3_000_000),
+        (1_000_000, 3_000_000),
+        (1_000_000, 1_000_000),
+    ],
+];
+
+fn district(alloc: Global, rings: &[&[(i64, i64)]]) -> Result<District, RegionFault>
+    ensures { IfOk result (λ d. first_fault d ≡ None) }
+{
+    let mut copies = Vec::new(alloc);
+    for ring in rings {
+        copies.push(ring.to_vec(alloc)?)?;
+    }
+    let mut polygons = Vec::new(alloc);
+    polygons.push(copies)?;
+    District::new(alloc, polygons)
+}
+
+// The day's problems by the Muslim World League, at Greenwich.
+fn problems_of(day: i32, noon: i32) -> [Problem; 7]
+    requires not_early { neg_ℤ (pos 25567) ≤ℤ day }
+    requires not_late { day ≤ℤ pos 47846 }
+    requires not_negative { pos 0 ≤ℤ noon }
+    requires below_a_day { noon ≤ℤ pos 1439 }
+    ensures { AreInLimits result }
+{
+    problems(Method::Mwl, Asr::Standard, day, 0, noon, 0, 90)
+}
+
+fn judged(rt: &impl Abort, sky: &Sky, problem: u32, cell: Cell) -> Verdict {
+    assert!(rt; problem < sky.problems());
+    assert!(rt; within(&cell, &sky.root()));
+    sky.judge(Task { problem, cell })
+}
+
+// What the verdict is, with its point.
+fn told(verdict: Verdict) -> (&'static str, (i128, i128, i128)) {
+    match verdict {
+        Verdict::Outside => ("outside", (0, 0, 0)),
+        Verdict::Proved => ("proved", (0, 0, 0)),
+        Verdict::Refuted(p) => ("refuted", (p.a, p.b, p.d)),
+        Verdict::Split => ("split", (0, 0, 0)),
+        Verdict::Open(p) => ("open", (p.a, p.b, p.d)),
+    }
+}
+
+#[test]
+fn one_place_is_judged_as_its_table_says(rt: HostRuntime) -> Result<(), Fail> {
+    let sky = Sky::new(
+        rt.alloc(),
+        district(rt.alloc(), POINT)?,
+        problems_of(DAY, 720),
+    )?;
+    let root = root_at(100_000, 0);
+    assert_eq!(rt; sky.root(), root);
+    assert_eq!(rt; sky.problems(), 7);
+    assert_eq!(rt; sky.district().positions(), 4);
+    // The ranks of 04:45, 05:59, 12:03, 15:29, 18:07, 19:17 and 19:18.
+    for (problem, rank) in [
+        (0, 285),
+        (1, 361),
+        (2, 363),
+        (3, 209),
+        (4, 367),
+        (5, 283),
+        (6, 438),
+    ] {
+        let place = Cell {
+            size: 4,
+            first: rank,
+            last: rank,
+            ..root
+        };
+        let before = Cell {
+            first: rank - 1,
+            last: rank - 1,
+            ..place
+        };
+        assert_eq!(rt;
+            told(judged(&rt, &sky, problem, root)).0,
+            "split",
+            "{problem}"
+        );
+        assert_eq!(rt;
+            judged(&rt, &sky, problem, place),
+            Verdict::Proved,
+            "{problem}"
+        );
+        assert_eq!(rt;
+            told(judged(&rt, &sky, problem, before)),
+            ("refuted", (12_800_000, 0, 1)),
+            "{problem}"
+        );
+    }
+    Ok(())
+}
+
+// A problem, a cell by its corner, size and ranks, and the verdict with its point.
+type Case = (
+    u32,
+    (i64, i64, u8),
+    (u32, u32),
+    &'static str,
+    (i128, i128, i128),
+);
+
+const NOTHING: (i128, i128, i128) = (0, 0, 0);
+
+// As a slow reference program answers for the square with a hole.
+const CASES: &[Case] = &[
+    // The root and large boxes that tile it.
+    (0, (0, 0, 29), (0, 720), "split", NOTHING),
+    (
+        2,
+        (268_435_456, 268_435_456, 28),
+        (0, 99),
+        "refuted",
+        (
+            262_144_000_000_000_000,
+            137_438_953_472_000_000,
+            512_000_000,
+        ),
+    ),
+    (2, (0, 134_217_728, 27), (700, 720), "proved", NOTHING),
+    (
+        0,
+        (251_658_240, 251_658_240, 24),
+        (0, 720),
+        "outside",
+        NOTHING,
+    ),
+    // Large boxes that don't.
+    (
+        0,
+        (251_658_241, 251_658_240, 24),
+        (0, 5),
+        "outside",
+        NOTHING,
+    ),
+    (
+        0,
+        (251_658_241, 16_777_213, 24),
+        (0, 5),
+        "refuted",
+        (251_658_241, 16_777_213, 1),
+    ),
+    // Small boxes in one strip, and across two.
+    (
+        0,
+        (503_316_480, 511_705_080, 10),
+        (700, 720),
+        "proved",
+        NOTHING,
+    ),
+    (
+        0,
+        (127_999_995, 256_000_000, 4),
+        (0, 0),
+        "refuted",
+        (32_768_000_000_000_000, 65_536_000_000_000_000, 256_000_000),
+    ),
+    (
+        0,
+        (0, 8_388_600, 4),
+        (0, 0),
+        "refuted",
+        (0, 4_294_963_200_000_000, 512_000_000),
+    ),
+    (0, (0, 8_388_600, 4), (720, 720), "proved", NOTHING),
+    // For each problem smallest cells beside each other where its value is zero.
+    (
+        0,
+        (501_053_488, 48, 4),
+        (277, 277),
+        "refuted",
+        (501_053_488, 48, 1),
+    ),
+    (
+        0,
+        (501_053_504, 48, 4),
+        (277, 277),
+        "open",
+        (501_053_504, 48, 1),
+    ),
+    (0, (501_053_520, 48, 4), (277, 277), "proved", NOTHING),
+    (1, (18_014_368, 48, 4), (353, 353), "proved", NOTHING),
+    (
+        1,
+        (18_014_384, 48, 4),
+        (353, 353),
+        "open",
+        (18_014_384, 48, 1),
+    ),
+    (
+        1,
+        (18_014_400, 48, 4),
+        (353, 353),
+        "refuted",
+        (18_014_400, 48, 1),
+    ),
+    (
+        2,
+        (489_575_088, 48, 4),
+        (356, 356),
+        "refuted",
+        (489_575_088, 48, 1),
+    ),
+    (
+        2,
+        (489_575_104, 48, 4),
+        (356, 356),
+        "open",
+        (489_575_104, 48, 1),
+    ),
+    (2, (489_575_120, 48, 4), (356, 356), "proved", NOTHING),
+    (
+        3,
+        (508_347_616, 48, 4),
+        (201, 201),
+        "refuted",
+        (508_347_616, 48, 1),
+    ),
+    (
+        3,
+        (508_347_632, 48, 4),
+        (201, 201),
+        "open",
+        (508_347_632, 48, 1),
+    ),
+    (3, (508_347_680, 48, 4), (201, 201), "proved", NOTHING),
+    (
+        4,
+        (481_250_144, 48, 4),
+        (360, 360),
+        "refuted",
+        (481_250_144, 48, 1),
+    ),
+    (
+        4,
+        (481_250_160, 48, 4),
+        (360, 360),
+        "open",
+        (481_250_160, 48, 1),
+    ),
+    (4, (481_250_176, 48, 4), (360, 360), "proved", NOTHING),
+    (5, (16_910_368, 48, 4), (275, 275), "proved", NOTHING),
+    (
+        5,
+        (16_910_384, 48, 4),
+        (275, 275),
+        "open",
+        (16_910_384, 48, 1),
+    ),
+    (
+        5,
+        (16_910_400, 48, 4),
+        (275, 275),
+        "refuted",
+        (16_910_400, 48, 1),
+    ),
+    (
+        6,
+        (496_768_304, 48, 4),
+        (430, 430),
+        "refuted",
+        (496_768_304, 48, 1),
+    ),
+    (
+        6,
+        (496_768_336, 48, 4),
+        (430, 430),
+        "open",
+        (496_768_336, 48, 1),
+    ),
+    (6, (496_768_352, 48, 4), (430, 430), "proved", NOTHING),
+];
+
+#[test]
+fn cells_are_judged_as_by_the_reference(rt: HostRuntime) -> Result<(), Fail> {
+    let sky = Sky::new(
+        rt.alloc(),
+        district(rt.alloc(), SQUARE)?,
+        problems_of(DAY, 712),
+    )?;
+    for case in CASES {
+        let (problem, (x, y, size), (first, last), word, point) = *case;
+        let cell = Cell {
+            x,
+            y,
+            size,
+            first,
+            last,
+        };
+        assert_eq!(rt;
+            told(judged(&rt, &sky, problem, cell)),
+            (word, point),
+            "{problem} at {x} {y}"
+        );
+    }
+    Ok(())
+}
+
+#[test]
+fn a_sky_turns_to_another_day(rt: HostRuntime) -> Result<(), Fail> {
+    let district = district(rt.alloc(), POINT)?;
+    let root = root_over(&district);
+    let mut sky = Sky::new_in(rt.alloc(), district, problems_of(DAY, 720), root)?;
+    assert_eq!(rt; sky.root(), root_at(100_000, 0));
+    let noon = Cell {
+        size: 4,
+        first: 363,
+        last: 363,
+        ..root
+    };
+    assert_eq!(rt; told(judged(&rt, &sky, 2, noon)).0, "proved");
+    // Half a year later the sun passes the meridian a minute later.
+    sky.turn_to(problems_of(DAY + 180, 720));
+    assert_eq!(rt; told(judged(&rt, &sky, 2, noon)).0, "refuted");
+    assert_eq!(rt; sky.problem(2).base, 180 * 1440 - 720);
+    assert_eq!(rt; sky.root(), root);
+    Ok(())
+}
