@@ -1,0 +1,10 @@
+use Rattle.std.proofs.Common.{◌≡◌, drop}
+use Rattle.exact_json.specs.View.{items_of}
+use Rattle.order_reader.proofs.EachLemmas.{with_front}
+use Rattle.order_reader.specs.Each.{each_of}
+use Rattle.order_reader.specs.Members.{pair_in}
+use Rattle.order_reader.proofs.late.pairs_in.Given as goal
+
+-- the pairs so far, with those that are left, are all
+abbrev pub invariant-loop-i : goal.invariant-loop-i
+invariant-loop-i l = with_front l.pairs.items (each_of pair_in (drop l.i (items_of l.list))) ≡ each_of pair_in (items_of l.list)

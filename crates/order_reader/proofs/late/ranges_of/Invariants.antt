@@ -1,0 +1,9 @@
+use Rattle.std.proofs.Common.{◌≡◌, drop}
+use Rattle.order_reader.proofs.EachLemmas.{with_front}
+use Rattle.order_reader.specs.Each.{each_of}
+use Rattle.order_reader.specs.Members.{range_of}
+use Rattle.order_reader.proofs.late.ranges_of.Given as goal
+
+-- the ranges so far, with those that are left, are all
+abbrev pub invariant-loop-pair : goal.invariant-loop-pair
+invariant-loop-pair l = with_front l.ranges.items (each_of range_of (drop l.pair-index l.pairs)) ≡ each_of range_of l.pairs

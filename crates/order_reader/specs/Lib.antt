@@ -1,0 +1,16 @@
+pub mod Asked
+pub mod Dates
+pub mod Each
+pub mod Geometry
+pub mod Gives
+pub mod Late
+pub mod Line
+pub mod LineReading
+pub mod Lookup
+pub mod Members
+pub mod Offsets
+pub mod Parts
+pub mod Reading
+pub mod Reads
+pub mod Seen
+pub mod Words

@@ -1,0 +1,17 @@
+// What is true of reading orders, each law the contract of a function that does nothing.
+ghost use Rattle.order_reader.specs.Reads.{EveryTextIsReadOrRefused, LineReadingsAgree, OrderReadingsAgree};
+
+/// Bytes are one order, or have one first refusal.
+pub fn order_readings_agree()
+    ensures { OrderReadingsAgree }
+{}
+
+/// Bytes are one canonical line, or have one first refusal as such.
+pub fn line_readings_agree()
+    ensures { LineReadingsAgree }
+{}
+
+/// All bytes are an order, or are refused.
+pub fn every_text_is_read_or_refused()
+    ensures { EveryTextIsReadOrRefused }
+{}

@@ -1,0 +1,33 @@
+// Orders: what a table is asked for, read from JSON.
+// Contract: `read_order` answers the order that the bytes spell, or its first refusal, exactly.
+#![tactic(auto)]
+
+mod date;
+mod fault;
+mod geometry;
+mod late;
+mod laws;
+mod line;
+mod line_reading;
+mod lookup;
+mod members;
+mod offsets;
+mod order;
+mod parts;
+mod positions;
+mod ranges;
+mod read;
+
+pub use fault::{Member, OrderFault, member_word};
+pub use laws::{every_text_is_read_or_refused, line_readings_agree, order_readings_agree};
+pub use line::order_line;
+pub use line_reading::read_order_line;
+pub use offsets::Offsets;
+pub use order::Order;
+pub use ranges::Ranges;
+pub use read::read_order;
+
+#[cfg(test)]
+mod geometry_tests;
+#[cfg(test)]
+mod tests;

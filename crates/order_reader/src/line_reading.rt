@@ -1,0 +1,126 @@
+// Canonical lines, read again.
+ghost use Rattle.std.specs.Prelude.{◌≡◌, ◌⊎◌, true, None, Ok, Err, IfOk, IfErr};
+ghost use Rattle.exact_json.specs.View.{entries_of, tree_of};
+ghost use Rattle.order_reader.specs.Asked.{asked_of};
+ghost use Rattle.order_reader.specs.Gives.{Gives};
+ghost use Rattle.order_reader.specs.Late.{may_be_late};
+ghost use Rattle.order_reader.specs.LineReading.{line_district, line_extras_of, line_order_in, line_order_of, second_extras_of, version_in};
+ghost use Rattle.order_reader.specs.Parts.{extras_view};
+ghost use Rattle.order_reader.specs.Reads.{ReadsLine};
+ghost use Rattle.region.specs.Faults.{first_fault};
+
+use crate::fault::{Member, OrderFault};
+use crate::geometry::read_line_district;
+use crate::late::late_in;
+use crate::lookup::{list_in, number_in, object_in};
+use crate::members::{height_in, needed, whole_within};
+use crate::order::Order;
+use crate::parts::Extras;
+use crate::positions::GeometryFault;
+use crate::ranges::Ranges;
+use crate::read::{basis_of, district_of, json_refusal, order_with};
+use exact_json::{Json, JsonTable, read};
+use method_table::Method;
+use region::District;
+use std::alloc::Global;
+use year_table::SunChoice;
+
+// the version of a line, 1 or 2
+#[tactic(auto, unfolding(crate::specs::LineReading::version_in))]
+fn version_in(value: &Json) -> Result<u32, OrderFault>
+    ensures { Gives (λ version. version) result (version_in (tree_of value.now)) }
+{
+    let Some(number) = number_in(value) else {
+        return Err(OrderFault::Kind(Member::Version));
+    };
+    match whole_within(number, 1, 2) {
+        Some(version) => Ok(version as u32),
+        None => Err(OrderFault::Range(Member::Version)),
+    }
+}
+
+// the members since the second version
+#[tactic(auto, unfolding(crate::specs::LineReading::second_extras_of))]
+fn second_extras_of(alloc: Global, table: &JsonTable, method: Method) -> Result<Extras, OrderFault>
+    ensures given { Gives extras_view result (second_extras_of method (entries_of table.now)) }
+    ensures late { IfOk result (λ x. may_be_late method x.late ≡ true) }
+{
+    let height = height_in(needed(table, Member::Height)?)?;
+    let late = late_in(alloc, needed(table, Member::LateIsha)?, method)?;
+    Ok(Extras {
+        height,
+        late,
+        sun: SunChoice::Usno,
+    })
+}
+
+fn extras_of(
+    alloc: Global,
+    table: &JsonTable,
+    version: u32,
+    method: Method,
+) -> Result<Extras, OrderFault>
+    ensures given { Gives extras_view result (line_extras_of version method (entries_of table.now)) }
+    ensures late { IfOk result (λ x. may_be_late method x.late ≡ true) }
+{
+    if version >= 2 {
+        return second_extras_of(alloc, table, method);
+    }
+    Ok(Extras {
+        height: 0,
+        late: Ranges::new(Vec::new(alloc)),
+        sun: SunChoice::Usno,
+    })
+}
+
+#[tactic(auto, unfolding(crate::specs::LineReading::line_district))]
+fn district_in(alloc: Global, value: &Json) -> Result<District, OrderFault>
+    ensures given { Gives (λ district. district) result (line_district (tree_of value.now)) }
+    ensures sound { IfOk result (λ district. first_fault district ≡ None) }
+{
+    let Some(list) = list_in(value) else {
+        return Err(OrderFault::Kind(Member::District));
+    };
+    match read_line_district(alloc, list) {
+        Ok(polygons) => district_of(alloc, polygons),
+        Err(GeometryFault::NotGeometry) => Err(OrderFault::Geometry),
+        Err(GeometryFault::NoMemory) => Err(OrderFault::NoMemory),
+    }
+}
+
+#[tactic(auto, unfolding(crate::specs::LineReading::line_order_of))]
+fn order_of(alloc: Global, table: &JsonTable) -> Result<Order, OrderFault>
+    ensures { Gives asked_of result (line_order_of (entries_of table.now)) }
+{
+    let version = version_in(needed(table, Member::Version)?)?;
+    let basis = basis_of(alloc, table)?;
+    let extras = extras_of(alloc, table, version, basis.method)?;
+    let district = district_in(alloc, needed(table, Member::District)?)?;
+    Ok(order_with(basis, extras, district))
+}
+
+#[tactic(auto, unfolding(crate::specs::LineReading::line_order_in))]
+fn order_in(alloc: Global, value: &Json) -> Result<Order, OrderFault>
+    ensures { Gives asked_of result (line_order_in (tree_of value.now)) }
+{
+    let Some(table) = object_in(value) else {
+        return Err(OrderFault::Kind(Member::Order));
+    };
+    order_of(alloc, table)
+}
+
+/// Reads a canonical line without its LF, its members in any order and spelling: `version`, which is 1
+/// or 2, then `from`, `days`, `method`, `asr`, `zone`, in version 2 `height` and `late_isha`, and
+/// `district`, a list of polygons, rings and positions of exactly two whole numbers, in microdegrees.
+/// Each stands once, other members are passed over, and the faults are those of an order.
+pub fn read_order_line(alloc: Global, bytes: &[u8]) -> Result<Order, OrderFault>
+    // `Ok` is the order that the line spells.
+    ensures ok { IfOk result (λ o. ReadsLine bytes.now (Ok (asked_of o))) }
+    // A refusal is the first one, or memory was not found.
+    ensures fault { IfErr result (λ fault. (fault ≡ OrderFault.NoMemory) ⊎ ReadsLine bytes.now (Err fault)) }
+{
+    match read(alloc, bytes) {
+        Ok(value) => order_in(alloc, &value),
+        Err(fault) => Err(json_refusal(fault)),
+    }
+}

@@ -1,0 +1,261 @@
+use crate::{
+    OrderFault, every_text_is_read_or_refused, line_readings_agree, member_word,
+    order_readings_agree, read_order, read_order_line,
+};
+use exact_json::JsonFault;
+use region::RegionFault;
+use std::alloc::{AllocError, Global};
+use std::process::Abort;
+use std::test::Fail;
+use year_table::Zone;
+
+const ORDER: &str =
+    r#"{"from":"2025-03-01","days":1,"method":"mwl","asr":"standard","zone":180,"district":{"type":"Polygon","coordinates":[[[39,21],[40,21],[40,22],[39,22],[39,21]]]}}"#;
+
+const LINE: &str =
+    r#"{"version":1,"from":"2025-03-01","days":1,"method":"mwl","asr":"standard","zone":180,"district":[[[[39000000,21000000],[40000000,21000000],[40000000,22000000],[39000000,21000000]]]]}"#;
+
+fn region_text(alloc: Global, fault: RegionFault) -> Result<String, AllocError> {
+    match fault {
+        RegionFault::Short(ring) => format!(in alloc; "region 1 ring {ring}"),
+        RegionFault::Open(ring) => format!(in alloc; "region 2 ring {ring}"),
+        RegionFault::TooMany => String::from_str(alloc, "region 3"),
+        RegionFault::TooWide => String::from_str(alloc, "region 4"),
+        RegionFault::TooFar => String::from_str(alloc, "region 5"),
+        RegionFault::NoPolygon => String::from_str(alloc, "region 6"),
+        RegionFault::NoMemory => String::from_str(alloc, "no memory"),
+    }
+}
+
+fn json_text(alloc: Global, fault: JsonFault) -> Result<String, AllocError> {
+    match fault {
+        JsonFault::NotJson(place) => format!(in alloc; "json 1 at {place}"),
+        JsonFault::TooDeep(place) => format!(in alloc; "json 2 at {place}"),
+        JsonFault::LongNumber(place) => format!(in alloc; "json 3 at {place}"),
+        JsonFault::NoMemory => String::from_str(alloc, "no memory"),
+    }
+}
+
+fn fault_text(alloc: Global, fault: OrderFault) -> Result<String, AllocError> {
+    let (word, member) = match fault {
+        OrderFault::Json(fault) => return json_text(alloc, fault),
+        OrderFault::Region(fault) => return region_text(alloc, fault),
+        OrderFault::Geometry => return String::from_str(alloc, "geometry"),
+        OrderFault::NoMemory => return String::from_str(alloc, "no memory"),
+        OrderFault::Missing(member) => ("missing", member),
+        OrderFault::Twice(member) => ("twice", member),
+        OrderFault::Kind(member) => ("kind", member),
+        OrderFault::Range(member) => ("range", member),
+    };
+    let member = member_word(member);
+    format!(in alloc; "{word} {member}")
+}
+
+fn answer(alloc: Global, text: &str) -> Result<String, AllocError> {
+    match read_order(alloc, text.as_bytes()) {
+        Ok(_) => String::from_str(alloc, "order"),
+        Err(fault) => fault_text(alloc, fault),
+    }
+}
+
+fn line_answer(alloc: Global, text: &str) -> Result<String, AllocError> {
+    match read_order_line(alloc, text.as_bytes()) {
+        Ok(_) => String::from_str(alloc, "order"),
+        Err(fault) => fault_text(alloc, fault),
+    }
+}
+
+#[test]
+fn other_bytes_are_no_order(rt: HostRuntime) -> Result<(), Fail> {
+    let alloc = rt.alloc();
+    let brackets = "[".repeat(alloc, 65)?;
+    let ones = "1".repeat(alloc, 65)?;
+    for (text, want) in [
+        ("", "json 1 at 0"),
+        (r#"{"from""#, "json 1 at 7"),
+        (brackets.as_str(), "json 2 at 64"),
+        (ones.as_str(), "json 3 at 0"),
+        ("[]", "kind order"),
+        ("{}", "missing from"),
+        (r#"{"from":"2025-03-01","from":"2025-03-01"}"#, "twice from"),
+        (r#"{"from":7,"from":7}"#, "twice from"),
+        (r#"{"days":0,"days":0}"#, "missing from"),
+    ] {
+        let got = answer(alloc, text)?;
+        assert_eq!(rt; got.as_str(), want, "at {text}");
+    }
+    Ok(())
+}
+
+// The answers to an order in which a part is another one.
+fn with_changes(rt: &impl Abort, alloc: Global, rows: &[(&str, &str, &str)]) -> Result<(), Fail> {
+    for (old, new, want) in rows {
+        let text = ORDER.replace(alloc, *old, *new)?;
+        let got = answer(alloc, text.as_str())?;
+        assert_eq!(rt; got.as_str(), *want, "at {text}");
+    }
+    Ok(())
+}
+
+#[test]
+fn members_have_kinds_and_ranges(rt: HostRuntime) -> Result<(), Fail> {
+    let rows = [
+        ("", "", "order"),
+        ("2025-03-01", "2025-02-30", "range from"),
+        ("2025-03-01", "1 March", "kind from"),
+        ("2025-03-01", "1899-12-31", "range from"),
+        ("2025-03-01", "1900-01-01", "order"),
+        ("2025-03-01", "1900-02-29", "range from"),
+        ("2025-03-01", "2000-02-29", "order"),
+        ("2025-03-01", "2100-12-31", "order"),
+        (
+            r#"2025-03-01","days":1"#,
+            r#"2100-12-31","days":2"#,
+            "range days",
+        ),
+        (r#""days":1"#, r#""days":0"#, "range days"),
+        (r#""days":1"#, r#""days":366e0"#, "order"),
+        (r#""days":1"#, r#""days":367"#, "range days"),
+        (r#""days":1"#, r#""days":1.5"#, "range days"),
+        (r#""days":1"#, r#""days":"1""#, "kind days"),
+        ("mwl", "mecca", "range method"),
+        (r#""mwl""#, "7", "kind method"),
+        ("standard", "late", "range asr"),
+        ("180", "841", "range zone"),
+        ("180", "-720", "order"),
+        ("180", "null", "kind zone"),
+        ("180", r#""Europe/Berlin""#, "kind zone"),
+        ("180", r#""LMT-0:00:30""#, "range zone"),
+    ];
+    with_changes(&rt, rt.alloc(), &rows)
+}
+
+#[test]
+fn further_members_may_stand(rt: HostRuntime) -> Result<(), Fail> {
+    let rows = [
+        ("180", r#"180,"height":9000"#, "order"),
+        ("180", r#"180,"height":9001"#, "range height"),
+        ("180", r#"180,"height":"1""#, "kind height"),
+        ("180", r#"180,"height":1,"height":1"#, "twice height"),
+        (
+            "180",
+            r#"180,"late_isha":[["2025-03-01","2025-03-30"]]"#,
+            "range late_isha",
+        ),
+        (
+            r#"mwl""#,
+            r#"makkah","late_isha":[["2025-03-01","2025-03-30"]]"#,
+            "order",
+        ),
+        (
+            r#"mwl""#,
+            r#"makkah","late_isha":[["2025-03-30","2025-03-01"]]"#,
+            "range late_isha",
+        ),
+        (
+            r#"mwl""#,
+            r#"makkah","late_isha":[["2025-02-30","2025-03-01"],["2025-03-01"]]"#,
+            "kind late_isha",
+        ),
+        ("180", r#"180,"sun":"usno""#, "order"),
+        ("180", r#"180,"sun":"moon""#, "range sun"),
+        ("180", r#"180,"sun":1"#, "kind sun"),
+        ("180", r#"180,"night":"third""#, "range night"),
+        ("180", r#"180,"nights":1,"nights":2,"version":"7""#, "order"),
+    ];
+    with_changes(&rt, rt.alloc(), &rows)
+}
+
+#[test]
+fn districts_have_forms_and_extents(rt: HostRuntime) -> Result<(), Fail> {
+    let rows = [
+        (r#"{"type":"Polygon","#, r#"7,"rest":{"#, "kind district"),
+        ("Polygon", "Point", "geometry"),
+        (
+            "[40,21],[40,22],[39,22]",
+            "[43.194304,21],[40,22],[39,22]",
+            "order",
+        ),
+        (
+            "[40,21],[40,22],[39,22]",
+            "[43.194305,21],[40,22],[39,22]",
+            "region 4",
+        ),
+        (
+            "[39,22],[39,21]",
+            "[39,22],[39.000001,21]",
+            "region 2 ring 0",
+        ),
+        ("[40,22],[39,22],[39,21]", "[39,21]", "region 1 ring 0"),
+        ("[40,21]", "[40,65.5]", "region 5"),
+    ];
+    with_changes(&rt, rt.alloc(), &rows)
+}
+
+#[test]
+fn an_order_has_what_it_says(rt: HostRuntime) -> Result<(), Fail> {
+    let alloc = rt.alloc();
+    let text =
+        r#"{"from":"2025-03-29","days":2,"method":"makkah","asr":"hanafi","zone":"CET-1CEST,M3.5.0,M10.5.0/3","height":277,"late_isha":[["2025-03-01","2025-03-29"]],"district":{"type":"Polygon","coordinates":[[[39,21],[40,21],[40,22],[39,21]]]}}"#;
+    let order = match read_order(alloc, text.as_bytes()) {
+        Ok(order) => order,
+        Err(_) => return Err(Fail::from("refused")),
+    };
+    assert_eq!(rt; order.from_day, 20_176);
+    assert_eq!(rt; order.days, 2);
+    assert_eq!(rt; order.height, 277);
+    assert!(rt; matches!(order.zone, Zone::Rule { .. }));
+    assert_eq!(rt; order.offsets.at(0), 60);
+    assert_eq!(rt; order.offsets.at(1), 120);
+    assert_eq!(rt; order.interval(20_176), 120);
+    assert_eq!(rt; order.interval(20_177), 90);
+    assert_eq!(rt; order.district.positions(), 4);
+    Ok(())
+}
+
+#[test]
+fn a_line_has_a_version(rt: HostRuntime) -> Result<(), Fail> {
+    let alloc = rt.alloc();
+    for (old, new, want) in [
+        ("", "", "order"),
+        (r#""version":1"#, r#""version":2"#, "missing height"),
+        (
+            r#""version":1"#,
+            r#""version":2,"height":0"#,
+            "missing late_isha",
+        ),
+        (
+            r#""version":1"#,
+            r#""late_isha":[],"height":0,"version":2"#,
+            "order",
+        ),
+        (
+            r#""version":1"#,
+            r#""version":1,"height":"x","sun":1,"sun":2"#,
+            "order",
+        ),
+        (r#""version":1"#, r#""version":3"#, "range version"),
+        (r#""version":1"#, r#""version":"1""#, "kind version"),
+        (
+            r#""version":1"#,
+            r#""version":1,"version":1"#,
+            "twice version",
+        ),
+        (r#""version":1"#, r#""v":1"#, "missing version"),
+        ("[[[[39", r#"{"district":1},"rest":[[[[39"#, "kind district"),
+        ("[39000000,21000000]", "[39000000,21000000,0]", "geometry"),
+        ("[40000000,22000000],", "", "region 1 ring 0"),
+    ] {
+        let text = LINE.replace(alloc, old, new)?;
+        let got = line_answer(alloc, text.as_str())?;
+        assert_eq!(rt; got.as_str(), want, "at {text}");
+    }
+    Ok(())
+}
+
+#[test]
+fn the_laws_are_called(_rt: HostRuntime) {
+    order_readings_agree();
+    line_readings_agree();
+    every_text_is_read_or_refused();
+}
