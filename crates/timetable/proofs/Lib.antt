@@ -1,5 +1,9 @@
 pub mod Digits
-pub mod Endings
-pub mod LawLemmas
 pub mod RequestLemmas
 pub mod TruthLemmas
+pub mod Streams
+pub mod Endings
+pub mod TableLemmas
+pub mod LawLemmas
+pub mod InputLemmas
+pub mod DayLemmas

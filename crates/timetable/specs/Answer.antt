@@ -1,7 +1,12 @@
 -- What the program answers to its words and its input: a status, a text for the output and a line for the error stream.
-use Rattle.std.specs.Prelude.{ℕ, decimal, Bool, false, if◌then◌else◌, MatchBool, List, [], ◌∷◌, ◌++◌, codes, bytes_eq, Option, Some, None, ◌≡◌}
+use Rattle.std.specs.Prelude.{ℕ, decimal, Bool, true, false, ◌==◌, if◌then◌else◌, MatchBool, List, [], ◌∷◌, ◌++◌, codes, bytes_eq, Option, Some, None, Ok, Err}
 use Rattle.std.specs.Fmt.{signed_decimal}
+use Rattle.order_reader.specs.Asked.{Asked}
+use Rattle.order_reader.specs.Line.{order_line}
 use Rattle.timetable.specs.Decimals.{decimal_text}
+use Rattle.timetable.specs.Input.{Input, unread, too_long, read, IsSpelledBy}
+use Rattle.timetable.specs.Refusals.{long_line, refusal_line}
+use Rattle.timetable.specs.Table.{table_of, undecided}
 use Rattle.timetable.specs.Request.{request_in}
 use Rattle.timetable.specs.Verdict.{verdict_of, word_of}
 use Rattle.timetable.specs.declared.ending.Status.{Status}
@@ -70,20 +75,65 @@ sun_answer_to (Some r) = record {
 unfoldable pub sun_answer : List (List ℕ) → Answer
 sun_answer words = sun_answer_to (request_in words)
 
+-- ---- commands that read an order
+
+-- the answer by the order that was read, or its first refusal
+abbrev pub answer_by : (Asked → Answer) → Input → Answer
+answer_by answer unread = usage_answer
+answer_by answer too_long = record { status = OrderRefused; text = []; line = long_line }
+answer_by answer (read (Err fault)) = record { status = OrderRefused; text = []; line = refusal_line fault }
+answer_by answer (read (Ok order)) = answer order
+
+-- the canonical line
+unfoldable pub order_answer : Asked → Answer
+order_answer o = record { status = Done; text = order_line o; line = [] }
+
+-- the table
+unfoldable pub table_answer : Asked → Answer
+table_answer o = record { status = if undecided o == 0 then Done else StatusOpen; text = table_of o; line = [] }
+
 -- ---- every command
 
--- whether the command reads its source to the end: none of those built does
-abbrev pub reads_input : List (List ℕ) → Bool
-reads_input words = false
+-- what a command asks for
+pub data Command : Type 0 where
+  none : Command
+  -- the words behind `sun`
+  sun : List (List ℕ) → Command
+  order : Command
+  plain : Command
 
--- the input of a run: all that the source had left, where the command reads it
-abbrev pub IsInput : List (List ℕ) → Option (List ℕ) → List ℕ → Type 0
-IsInput words left input = MatchBool (reads_input words) (left ≡ Some input) (Unit {0})
+-- a command that takes no further word
+abbrev pub alone : List (List ℕ) → Command → Command
+alone [] command = command
+alone words command = none
+
+unfoldable pub command_of : List (List ℕ) → Command
+command_of [] = none
+command_of (name ∷ words) =
+    if bytes_eq name (codes "sun") then sun words
+    else if bytes_eq name (codes "order") then alone words order
+    else if bytes_eq name (codes "plain") then alone words plain
+    else none
+
+-- whether the command reads its source to the end
+abbrev pub reads_input : Command → Bool
+reads_input order = true
+reads_input plain = true
+reads_input command = false
+
+-- the input of a run whose source had these bytes left
+abbrev pub IsInput : Command → Option (List ℕ) → Input → Type 0
+IsInput command left input = MatchBool (reads_input command) (IsSpelledBy left input) (Unit {0})
+
+abbrev pub answer_to : Command → Input → Answer
+answer_to none input = usage_answer
+answer_to (sun words) input = sun_answer words
+answer_to order input = answer_by order_answer input
+answer_to plain input = answer_by table_answer input
 
 -- the answer to the words behind the program's name and to the input
-unfoldable pub answer_of : List (List ℕ) → List ℕ → Answer
-answer_of [] input = usage_answer
-answer_of (command ∷ words) input = if bytes_eq command (codes "sun") then sun_answer words else usage_answer
+abbrev pub answer_of : List (List ℕ) → Input → Answer
+answer_of words input = answer_to (command_of words) input
 
 -- the line on the error stream of a run that ended with this status
 unfoldable pub line_of : Answer → Status → List ℕ

@@ -1,6 +1,7 @@
 // How a run of the program ends.
 ghost use Rattle.std.specs.Prelude.{◌≡◌};
 ghost use Rattle.timetable.specs.Answer.{number_of, line_of_status};
+ghost use Rattle.timetable.specs.Endings.{status_of_ending, line_of_ending};
 
 /// How a run ended. From `Usage` on, one line went to the error stream.
 #[derive(Clone, Copy, Debug, PartialEq, Eq)]
@@ -44,6 +45,35 @@ impl Status {
             Status::WriteFault => "write fault\n",
             Status::NoMemory => "no memory\n",
             Status::Done | Status::Open | Status::OrderRefused | Status::CoverRefused => "",
+        }
+    }
+}
+
+/// How a run ends, with the line that goes to the error stream.
+#[derive(Drop)]
+pub(crate) enum Ending {
+    /// The line, if there is one, says no more than the status.
+    Plain(Status),
+    /// The input is no order, as this line says.
+    Refused(String),
+}
+
+impl Ending {
+    pub(crate) fn status(&self) -> Status
+        ensures { result ≡ status_of_ending self.now }
+    {
+        match self {
+            Ending::Plain(status) => *status,
+            Ending::Refused(_) => Status::OrderRefused,
+        }
+    }
+
+    pub(crate) fn line(&self) -> &str
+        ensures { result.now ≡ line_of_ending self.now }
+    {
+        match self {
+            Ending::Plain(status) => status.line(),
+            Ending::Refused(line) => line.as_str(),
         }
     }
 }

@@ -1,5 +1,5 @@
 // What follows from how a run ended. Each law is the contract of a function that does nothing.
-ghost use Rattle.timetable.specs.Laws.{UsageIsForWrongWords, WrongWordsAreRefused, RightWordsAreAnswered, FaultsWereCounted};
+ghost use Rattle.timetable.specs.Laws.{UsageIsForWrongWords, WrongWordsAreRefused, OrdersAreRefusedForCause, WrongOrdersAreRefused, RightWordsAreAnswered};
 
 /// A run is ended by `Usage` only where the words are wrong.
 pub fn usage_is_for_wrong_words()
@@ -11,12 +11,18 @@ pub fn wrong_words_are_refused()
     ensures { WrongWordsAreRefused }
 {}
 
-/// Right words are answered by `Done` or `Open` where no fault was counted, want of memory aside.
-pub fn right_words_are_answered()
-    ensures { RightWordsAreAnswered }
+/// A run is ended by `OrderRefused` only where its command reads an order and its input is none; nothing is written.
+pub fn orders_are_refused_for_cause()
+    ensures { OrdersAreRefusedForCause }
 {}
 
-/// A run is ended by a read fault or a write fault only where that count rose.
-pub fn faults_were_counted()
-    ensures { FaultsWereCounted }
+/// An input that is no order is refused by a command that reads one, a read fault and want of memory aside.
+pub fn wrong_orders_are_refused()
+    ensures { WrongOrdersAreRefused }
+{}
+
+/// Right words, with an order where the command reads one, are answered by `Done` or `Open` where no fault was counted,
+/// want of memory aside.
+pub fn right_words_are_answered()
+    ensures { RightWordsAreAnswered }
 {}

@@ -1,0 +1,50 @@
+// The order that a source gives.
+ghost use Rattle.timetable.specs.Inputs.{IsLong, IsReadAs, IsRefusal};
+
+use crate::ending::{Ending, Status};
+use crate::refusals::refusal_line;
+use order_reader::{Order, OrderFault, read_order};
+use source_sink::{ReadFault, Source, read_all};
+use std::alloc::Global;
+
+/// The most bytes of an order.
+const ORDER_LIMIT: usize = 16_777_216;
+
+/// How a run ends whose input is no order.
+fn refused(alloc: Global, fault: OrderFault) -> Ending
+    ensures { IsRefusal result fault }
+{
+    if let OrderFault::NoMemory = fault {
+        return Ending::Plain(Status::NoMemory);
+    }
+    match refusal_line(alloc, fault) {
+        Ok(line) => Ending::Refused(line),
+        Err(_) => Ending::Plain(Status::NoMemory),
+    }
+}
+
+#[tactic(auto, unfolding(crate::specs::Refusals::long_line))]
+fn too_long(alloc: Global) -> Ending
+    ensures { IsLong result }
+{
+    match String::from_str(alloc, "order refused 8 long\n") {
+        Ok(line) => Ending::Refused(line),
+        Err(_) => Ending::Plain(Status::NoMemory),
+    }
+}
+
+/// Reads the source to its end, and the order that its bytes spell.
+pub(crate) fn read_input<S: Source>(alloc: Global, source: &mut S) -> Result<Order, Ending>
+    ensures { IsReadAs (S.left source.old) (S.faults source.old) (S.faults source.new) result }
+{
+    let bytes = match read_all(alloc, source, ORDER_LIMIT) {
+        Ok(bytes) => bytes,
+        Err(ReadFault::Failed) => return Err(Ending::Plain(Status::ReadFault)),
+        Err(ReadFault::TooLong) => return Err(too_long(alloc)),
+        Err(ReadFault::NoMemory) => return Err(Ending::Plain(Status::NoMemory)),
+    };
+    match read_order(alloc, &bytes) {
+        Ok(order) => Ok(order),
+        Err(fault) => Err(refused(alloc, fault)),
+    }
+}
