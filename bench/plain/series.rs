@@ -92,7 +92,7 @@ const CIRCLE: u64 = 51_840_000_000_000;
 const WIDTH: i128 = 18_000;
 
 fn main() {
-    let count: u64 = std::env::args().nth(1).and_then(|word| word.parse().ok()).expect("a count");
+    let count: u64 = std::env::args().nth(2).and_then(|word| word.parse().ok()).expect("a count");
     let mut sum = 0u64;
     for i in 0..count {
         let low = i128::from(i.wrapping_mul(STEP) % CIRCLE);
