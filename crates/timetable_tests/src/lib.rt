@@ -3,4 +3,10 @@
 #![tactic(auto)]
 
 #[cfg(test)]
+mod common;
+#[cfg(test)]
+mod orders;
+#[cfg(test)]
 mod sun;
+#[cfg(test)]
+mod tables;

@@ -1,53 +1,21 @@
 // The command `sun`: its words, its line and its sinks.
-use source_sink::{MemSink, SureSource};
-use std::alloc::Global;
-use std::process::Abort;
+use crate::common::{expect, run, sink, source};
 use std::test::Fail;
-use timetable::{Status, run_plain};
+use timetable::Status;
 
 const LINE: &str = "minute 0 lon 0.000000 lat 0.000000 angle 0.000000 above\n";
 
 const USAGE: &str =
     "usage: timetable table|cover [--workers W] | demo [--number M] [--workers W] | plain | check | order | sun MINUTE LON LAT WHAT\n";
 
-/// A sink that takes one byte a call, whose calls with these numbers fail.
-fn sink(alloc: Global, capacity: usize, failing: &[u32]) -> Result<MemSink, Fail> {
-    Ok(MemSink::new(alloc, capacity, failing.to_vec(alloc)?, 1)?)
-}
-
-/// Runs the words of a line.
-fn run(alloc: Global, line: &str, out: &mut MemSink, err: &mut MemSink) -> Result<Status, Fail> {
-    let mut words = Vec::new(alloc);
-    for word in line.split_whitespace() {
-        words.push(String::from_str(alloc, word)?)?;
-    }
-    let mut source = SureSource::new(Vec::new(alloc));
-    Ok(run_plain(alloc, &words, &mut source, out, err))
-}
-
-/// The status of the words and all that they write.
-fn expect(
-    rt: &(impl Abort + AllocGlobal),
-    words: &str,
-    status: Status,
-    out: &str,
-    err: &str,
-) -> Result<(), Fail> {
-    let mut written = sink(rt.alloc(), 200, &[])?;
-    let mut reported = sink(rt.alloc(), 200, &[])?;
-    let found = run(rt.alloc(), words, &mut written, &mut reported)?;
-    assert_eq!(rt; found, status, "at {words}");
-    assert_eq!(rt; written.bytes(), out.as_bytes(), "at {words}");
-    assert_eq!(rt; reported.bytes(), err.as_bytes(), "at {words}");
-    Ok(())
-}
-
 #[test]
 fn wrong_words_get_the_usage_line(rt: HostRuntime) -> Result<(), Fail> {
     for words in [
         "",
         "tabel",
-        "order",
+        "Order",
+        "order order",
+        "plain --",
         "sun",
         "sun 0 0 0",
         "sun 0 0 0 0 0",
@@ -80,7 +48,7 @@ fn wrong_words_get_the_usage_line(rt: HostRuntime) -> Result<(), Fail> {
         "sun 0 0 0 asr",
         "sun 0 0 0 asr3",
     ] {
-        expect(&rt, words, Status::Usage, "", USAGE)?;
+        expect(&rt, words, b"", Status::Usage, "", USAGE)?;
     }
     Ok(())
 }
@@ -134,7 +102,7 @@ fn right_words_get_a_line(rt: HostRuntime) -> Result<(), Fail> {
             "minute 270 lon 0.100000 lat 0.000000 asr 2 after\n",
         ),
     ] {
-        expect(&rt, words, Status::Done, line, "")?;
+        expect(&rt, words, b"", Status::Done, line, "")?;
     }
     Ok(())
 }
@@ -143,10 +111,11 @@ fn right_words_get_a_line(rt: HostRuntime) -> Result<(), Fail> {
 fn a_failed_write_is_no_later_fault(rt: HostRuntime) -> Result<(), Fail> {
     let mut out = sink(rt.alloc(), 200, &[1])?;
     let mut err = sink(rt.alloc(), 200, &[])?;
-    let first = run(rt.alloc(), "sun 0 0 0 0", &mut out, &mut err)?;
+    let mut source = source(rt.alloc(), b"")?;
+    let first = run(rt.alloc(), "sun 0 0 0 0", &mut source, &mut out, &mut err)?;
     assert_eq!(rt; first, Status::WriteFault);
     assert_eq!(rt; err.bytes(), b"write fault\n".as_slice());
-    let second = run(rt.alloc(), "sun 0 0 0 0", &mut out, &mut err)?;
+    let second = run(rt.alloc(), "sun 0 0 0 0", &mut source, &mut out, &mut err)?;
     assert_eq!(rt; second, Status::Done);
     assert_eq!(rt; out.bytes(), LINE.as_bytes());
     Ok(())
@@ -156,7 +125,9 @@ fn a_failed_write_is_no_later_fault(rt: HostRuntime) -> Result<(), Fail> {
 fn a_failing_error_stream_is_passed_over(rt: HostRuntime) -> Result<(), Fail> {
     let mut out = sink(rt.alloc(), 0, &[])?;
     let mut err = sink(rt.alloc(), 200, &[1])?;
-    assert_eq!(rt; run(rt.alloc(), "sun", &mut out, &mut err)?, Status::Usage);
+    let mut source = source(rt.alloc(), b"")?;
+    let status = run(rt.alloc(), "sun", &mut source, &mut out, &mut err)?;
+    assert_eq!(rt; status, Status::Usage);
     assert_eq!(rt; err.bytes(), b"".as_slice());
     Ok(())
 }
@@ -167,7 +138,8 @@ fn a_full_sink_holds_the_first_bytes(rt: HostRuntime) -> Result<(), Fail> {
     for capacity in 0..line.len() {
         let mut out = sink(rt.alloc(), capacity, &[])?;
         let mut err = sink(rt.alloc(), 200, &[])?;
-        let status = run(rt.alloc(), "sun 0 0 0 0", &mut out, &mut err)?;
+        let mut source = source(rt.alloc(), b"")?;
+        let status = run(rt.alloc(), "sun 0 0 0 0", &mut source, &mut out, &mut err)?;
         assert_eq!(rt; status, Status::WriteFault);
         assert_eq!(rt; out.bytes(), &line[..capacity]);
     }
