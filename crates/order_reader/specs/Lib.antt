@@ -5,6 +5,7 @@ pub mod Geometry
 pub mod Gives
 pub mod Late
 pub mod Line
+pub mod LineLaws
 pub mod LineReading
 pub mod Lookup
 pub mod Members
@@ -12,5 +13,6 @@ pub mod Offsets
 pub mod Parts
 pub mod Reading
 pub mod Reads
+pub mod Rule
 pub mod Seen
 pub mod Words

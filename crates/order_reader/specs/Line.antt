@@ -81,9 +81,13 @@ polygon_text = list_text ring_text
 abbrev pub district_text : List Polygon → List ℕ
 district_text = list_text polygon_text
 
-abbrev pub line_text : List ℕ → List ℕ → List ℕ → List ℕ → List ℕ
-line_text span words extras district = span ++ words ++ extras ++ codes ",\"district\":" ++ district ++ codes "}\n"
+abbrev pub body_text : List ℕ → List ℕ → List ℕ → List ℕ → List ℕ
+body_text span words extras district = span ++ words ++ extras ++ codes ",\"district\":" ++ district ++ codes "}"
 
-unfoldable pub order_line : Asked → List ℕ
-order_line o =
-    line_text (span_text (version_of o.height o.late) o.from_day o.days) (words_text o.method o.asr o.zone) (extras_text o.height o.late) (district_text o.district)
+-- the line without its LF
+unfoldable pub order_body : Asked → List ℕ
+order_body o =
+    body_text (span_text (version_of o.height o.late) o.from_day o.days) (words_text o.method o.asr o.zone) (extras_text o.height o.late) (district_text o.district)
+
+abbrev pub order_line : Asked → List ℕ
+order_line o = order_body o ++ codes "\n"

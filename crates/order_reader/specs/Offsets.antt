@@ -1,8 +1,10 @@
 -- The days of an order, and the offset of each.
-use Rattle.std.specs.Prelude.{ℕ, zero, suc, ℤ, pos, neg_ℤ, ◌+ℤ◌, ◌≤ℤ◌, int_le, Bool, ◌&&◌, List, [], ◌∷◌, Option}
+use Rattle.std.specs.Prelude.{ℕ, zero, suc, ℤ, pos, neg_ℤ, ◌+ℤ◌, ◌≤ℤ◌, int_le, Bool, true, ◌&&◌, List, [], ◌∷◌, Option}
 use Rattle.order_reader.specs.Each.{each_of}
+use Rattle.year_table.specs.Rules.{is_rule}
 use Rattle.year_table.specs.Zones.{day_offset}
 use Rattle.year_table.specs.declared.zone.Zone.{Zone}
+use Rattle.year_table.specs.declared.zone.Zone.TheVariants.{Fixed, Rule}
 
 -- 1900-01-01 and 2100-12-31
 abbrev pub first_day : ℤ
@@ -22,6 +24,11 @@ days_from day (suc n) = day ∷ days_from (day +ℤ pos 1) n
 -- the offset of each day, if each has one
 unfoldable pub offsets_of : Zone → ℤ → ℕ → Option (List ℤ)
 offsets_of zone day days = each_of (day_offset zone) (days_from day days)
+
+-- the rule of a zone, if it has one, is one of POSIX
+abbrev pub is_zone : Zone → Bool
+is_zone (Fixed minutes) = true
+is_zone (Rule text) = is_rule text
 
 -- an offset in minutes
 pub record IsOffset (offset : ℤ) : Type 0 where

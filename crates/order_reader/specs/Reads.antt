@@ -7,6 +7,7 @@ use Rattle.exact_json.specs.declared.fault.JsonFault.TheVariants.{NoMemory}
 use Rattle.order_reader.specs.Asked.{Asked}
 use Rattle.order_reader.specs.LineReading.{line_order_in}
 use Rattle.order_reader.specs.Reading.{order_in}
+use Rattle.order_reader.specs.Rule.{IsOrder}
 use Rattle.order_reader.specs.declared.fault.OrderFault.{OrderFault}
 use Rattle.order_reader.specs.declared.fault.OrderFault.TheVariants.{Json, NoMemory as OutOfMemory}
 
@@ -41,3 +42,7 @@ LineReadingsAgree = (bytes : List ℕ) (x y : Result Asked OrderFault) → Reads
 -- all bytes are an order's, or are refused
 abbrev pub EveryTextIsReadOrRefused : Type 0
 EveryTextIsReadOrRefused = (bytes : List ℕ) → (x : Result Asked OrderFault) × ReadsOrder bytes x
+
+-- what is read as an order keeps the rule of every order
+abbrev pub OrdersKeepTheRule : Type 0
+OrdersKeepTheRule = (bytes : List ℕ) (o : Asked) → ReadsOrder bytes (Ok o) → IsOrder o

@@ -8,6 +8,7 @@ mod geometry;
 mod late;
 mod laws;
 mod line;
+mod line_laws;
 mod line_reading;
 mod lookup;
 mod members;
@@ -19,8 +20,11 @@ mod ranges;
 mod read;
 
 pub use fault::{Member, OrderFault, member_word};
-pub use laws::{every_text_is_read_or_refused, line_readings_agree, order_readings_agree};
+pub use laws::{
+    every_text_is_read_or_refused, line_readings_agree, order_readings_agree, orders_keep_the_rule,
+};
 pub use line::order_line;
+pub use line_laws::{line_is_read_again, lines_are_read_again, versions_are_least};
 pub use line_reading::read_order_line;
 pub use offsets::Offsets;
 pub use order::Order;
@@ -29,5 +33,7 @@ pub use read::read_order;
 
 #[cfg(test)]
 mod geometry_tests;
+#[cfg(test)]
+mod line_tests;
 #[cfg(test)]
 mod tests;

@@ -16,7 +16,7 @@ use year_table::{Zone, date_text};
 
 /// The canonical line of an order, with its LF: the order's one text, which `read_order_line` reads
 /// again without the LF.
-#[tactic(auto, unfolding(crate::specs::Line::order_line))]
+#[tactic(auto, unfolding(crate::specs::Line::order_body))]
 pub fn order_line(alloc: Global, o: &Order) -> Result<Vec<u8>, NoMemory>
     ensures { IfOk result (λ t. t.items ≡ order_line (asked_of o.now)) }
 {

@@ -6,7 +6,7 @@ ghost use Rattle.exact_json.specs.View.{tree_of, items_of, entries_of};
 ghost use Rattle.order_reader.specs.Gives.{Gives};
 ghost use Rattle.order_reader.specs.Lookup.{list_in, number_in, text_in};
 ghost use Rattle.order_reader.specs.Members.{asr_in, asr_of, days_in, from_in, height_in, late_in, method_in, night_in, offsets_in, pair_in, sun_in, sun_of, whole_within, zone_by, zone_in, zone_of_number, zone_of_text};
-ghost use Rattle.order_reader.specs.Offsets.{first_day, is_day, last_day, offsets_of};
+ghost use Rattle.order_reader.specs.Offsets.{first_day, is_day, is_zone, last_day, offsets_of};
 ghost use Rattle.order_reader.specs.Reading.{needed, optional};
 
 use crate::date::{day_of, ymd_in};
@@ -122,7 +122,8 @@ pub(crate) fn asr_in(value: &Json) -> Result<Asr, OrderFault>
 
 // a fixed zone
 fn zone_of_number(number: &Decimal) -> Result<Zone, OrderFault>
-    ensures { Gives (λ zone. zone) result (zone_of_number number.now) }
+    ensures given { Gives (λ zone. zone) result (zone_of_number number.now) }
+    ensures known { IfOk result (λ zone. is_zone zone ≡ true) }
 {
     match whole_within(number, -720, 840) {
         Some(minutes) => Ok(Zone::Fixed {
@@ -134,7 +135,8 @@ fn zone_of_number(number: &Decimal) -> Result<Zone, OrderFault>
 
 // the zone of a rule
 fn zone_of_text(alloc: Global, text: &str) -> Result<Zone, OrderFault>
-    ensures { Gives (λ zone. zone) result (zone_of_text text.now) }
+    ensures given { Gives (λ zone. zone) result (zone_of_text text.now) }
+    ensures known { IfOk result (λ zone. is_zone zone ≡ true) }
 {
     match read_rule(alloc, text) {
         Ok(rule) => Ok(Zone::Rule { rule }),
@@ -145,7 +147,8 @@ fn zone_of_text(alloc: Global, text: &str) -> Result<Zone, OrderFault>
 
 #[tactic(auto, unfolding(crate::specs::Members::zone_in))]
 pub(crate) fn zone_in(alloc: Global, value: &Json) -> Result<Zone, OrderFault>
-    ensures { Gives (λ zone. zone) result (zone_in (tree_of value.now)) }
+    ensures given { Gives (λ zone. zone) result (zone_in (tree_of value.now)) }
+    ensures known { IfOk result (λ zone. is_zone zone ≡ true) }
 {
     if let Some(number) = number_in(value) {
         return zone_of_number(number);

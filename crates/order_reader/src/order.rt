@@ -1,7 +1,7 @@
 // Orders.
 ghost use Rattle.std.specs.Prelude.{◌≡◌, ◌≤◌, ◌≤ℤ◌, ◌+ℤ◌, length, pos, true, Some, None};
 ghost use Rattle.order_reader.specs.Late.{interval_on, may_be_late};
-ghost use Rattle.order_reader.specs.Offsets.{first_day, last_day, offsets_of};
+ghost use Rattle.order_reader.specs.Offsets.{first_day, is_zone, last_day, offsets_of};
 ghost use Rattle.region.specs.Faults.{first_fault};
 ghost use Rattle.year_table.specs.declared.head.SunChoice.TheVariants.{Usno};
 
@@ -33,6 +33,7 @@ pub struct Order {
     pub ghost not_late: { (from_day +ℤ pos days) ≤ℤ (last_day +ℤ pos 1) },
     pub ghost some_days: { 1 ≤ days },
     pub ghost few_days: { days ≤ 366 },
+    pub ghost known_zone: { is_zone zone ≡ true },
     pub ghost offset_each: { offsets_of zone from_day days ≡ Some offsets },
     pub ghost one_each: { length offsets ≡ days },
     pub ghost low: { height ≤ 9000 },

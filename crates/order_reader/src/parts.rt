@@ -1,6 +1,6 @@
 // Parts of an order.
-ghost use Rattle.std.specs.Prelude.{◌≡◌, ◌≤◌, ◌≤ℤ◌, ◌+ℤ◌, length, pos, Some};
-ghost use Rattle.order_reader.specs.Offsets.{first_day, last_day, offsets_of};
+ghost use Rattle.std.specs.Prelude.{◌≡◌, ◌≤◌, ◌≤ℤ◌, ◌+ℤ◌, length, pos, true, Some};
+ghost use Rattle.order_reader.specs.Offsets.{first_day, is_zone, last_day, offsets_of};
 ghost use Rattle.year_table.specs.declared.head.SunChoice.TheVariants.{Usno};
 
 use crate::offsets::Offsets;
@@ -21,6 +21,7 @@ pub(crate) struct Basis {
     ghost not_late: { (from_day +ℤ pos days) ≤ℤ (last_day +ℤ pos 1) },
     ghost some_days: { 1 ≤ days },
     ghost few_days: { days ≤ 366 },
+    ghost known_zone: { is_zone zone ≡ true },
     ghost offset_each: { offsets_of zone from_day days ≡ Some offsets },
     ghost one_each: { length offsets ≡ days },
 }

@@ -1,6 +1,6 @@
 use crate::{
     OrderFault, every_text_is_read_or_refused, line_readings_agree, member_word,
-    order_readings_agree, read_order, read_order_line,
+    order_readings_agree, orders_keep_the_rule, read_order, read_order_line,
 };
 use exact_json::JsonFault;
 use region::RegionFault;
@@ -258,4 +258,5 @@ fn the_laws_are_called(_rt: HostRuntime) {
     order_readings_agree();
     line_readings_agree();
     every_text_is_read_or_refused();
+    orders_keep_the_rule();
 }

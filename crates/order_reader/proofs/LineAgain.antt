@@ -1,0 +1,151 @@
+-- A canonical line's tree is read as the order that it was written from.
+use Rattle.std.proofs.Common.{◌≡◌, ◌∙◌, ap, refl, sym, subst, ℕ, ◌==◌, ◌≤◌, ℤ, pos, neg_ℤ, ◌+ℤ◌, ◌≤ℤ◌, Bool, true, false, cond, ◌&&◌, List, [], ◌∷◌, map, Option, Some, None, option_map, option_and_then, Result, Ok, Err, All, arith}
+use Rattle.std.specs.List.{AllByRecursion}
+use Rattle.std.proofs.lemmas.Bool.Decides.{nat_tests}
+use Rattle.std.proofs.lemmas.Int.{ints}
+use Rattle.std.proofs.lemmas.List.Elements.{recursion_from_All}
+use Rattle.exact_json.specs.Tree.{Tree, Entry, text, list_of}
+use Rattle.method_table.specs.Method.{asr_word, method_word}
+use Rattle.order_reader.proofs.LineTree.{date_tree, district_tree, fields_by, is_first, line_tree, number_tree, polygon_tree, position_tree, range_tree, ring_tree, tree_by, zone_tree}
+use Rattle.order_reader.proofs.LookupLemmas.{entries_in_before, items_in_before}
+use Rattle.order_reader.proofs.MembersAgain.{asr_again, days_again, from_again, height_again, late_again, method_again, offsets_again, version_again, zone_again}
+use Rattle.order_reader.proofs.NumberLemmas.{and_parts, whole_of_decimal}
+use Rattle.order_reader.proofs.RuleLemmas.{IsNear, near_district}
+use Rattle.order_reader.proofs.SpelledLemmas.{entry_of}
+use Rattle.order_reader.specs.Asked.{Asked}
+use Rattle.order_reader.specs.Each.{each_of}
+use Rattle.order_reader.specs.Geometry.{each_in, line_district_of, polygon_in, position_in, ring_in}
+use Rattle.order_reader.specs.Late.{is_empty}
+use Rattle.order_reader.specs.LineReading.{line_district, line_extras_of, line_order_in, line_order_of, second_extras_of, version_in}
+use Rattle.order_reader.specs.Lookup.{values_named}
+use Rattle.order_reader.specs.Offsets.{first_day, is_day, last_day}
+use Rattle.order_reader.specs.Reading.{Basis, Extras, asked_by, basis_of, district_of, needed}
+use Rattle.order_reader.specs.Rule.{IsOrder}
+use Rattle.order_reader.specs.declared.fault.Member.TheVariants as members
+use Rattle.order_reader.specs.declared.fault.OrderFault.{OrderFault}
+use Rattle.order_reader.specs.declared.positions.Notation.TheVariants.{Microdegrees}
+use Rattle.region.proofs.Truth.{le_true}
+use Rattle.region.specs.Faults.{first_fault}
+use Rattle.region.specs.Rings.{Position, Ring, Polygon}
+use Rattle.year_table.specs.declared.head.SunChoice.{SunChoice}
+use Rattle.year_table.specs.declared.head.SunChoice.TheVariants.{Usno}
+
+-- Districts.
+
+-- a list whose items are read as what they were written from
+each_by : {A : Type 0} (read : Tree → Option A) (tree : A → Tree) (P : A → Type 0) → ((x : A) → P x → read (tree x) ≡ Some x) → (xs : List A) → AllByRecursion P xs → each_of read (map tree xs) ≡ Some xs
+unfolding each_of
+each_by read tree P again [] h = refl
+each_by read tree P again (x ∷ xs) h = rw (again x h.0, each_by read tree P again xs h.1) refl
+
+each_again : {A : Type 0} (read : Tree → Option A) (tree : A → Tree) (P : A → Type 0) → ((x : A) → P x → read (tree x) ≡ Some x) → (xs : List A) → All P xs → each_of read (map tree xs) ≡ Some xs
+each_again read tree P again xs h = each_by read tree P again xs (recursion_from_All P xs h)
+
+list_again : {A : Type 0} (read : Tree → Option A) (tree : A → Tree) (P : A → Type 0) → ((x : A) → P x → read (tree x) ≡ Some x) → (xs : List A) → All P xs → each_in read (list_of (map tree xs)) ≡ Some xs
+list_again read tree P again xs h = ap (each_of read) (items_in_before (map tree xs)) ∙ each_again read tree P again xs h
+
+position_again : (p : Position) → IsNear p → position_in Microdegrees (position_tree p) ≡ Some p
+position_again p near = rw (whole_of_decimal p.0 near.longitude, whole_of_decimal p.1 near.latitude) refl
+
+ring_again : (ring : Ring) → All IsNear ring → ring_in Microdegrees (ring_tree ring) ≡ Some ring
+ring_again = list_again (position_in Microdegrees) position_tree IsNear position_again
+
+polygon_again : (rings : Polygon) → All (All IsNear) rings → polygon_in Microdegrees (polygon_tree rings) ≡ Some rings
+polygon_again = list_again (ring_in Microdegrees) ring_tree (All IsNear) ring_again
+
+polygons_again : (polygons : List Polygon) → first_fault polygons ≡ None → line_district_of (map polygon_tree polygons) ≡ Some polygons
+polygons_again polygons sound = each_again (polygon_in Microdegrees) polygon_tree (All (All IsNear)) polygon_again polygons (near_district polygons sound)
+
+district_again : (polygons : List Polygon) → first_fault polygons ≡ None → line_district (district_tree polygons) ≡ Ok polygons
+unfolding line_district
+district_again polygons sound = rw (items_in_before (map polygon_tree polygons), polygons_again polygons sound, sound) refl
+
+-- Orders.
+
+first_is_day : (o : Asked) → IsOrder o → is_day o.from_day ≡ true
+first_is_day o h = rw (le_true first_day o.from_day h.not_early, le_true o.from_day last_day (omega (arith, ints, h.not_late, h.some_days))) refl
+
+abbrev basis_in : Asked → Basis
+basis_in o = record { from_day = o.from_day; days = o.days; method = o.method; asr = o.asr; zone = o.zone; offsets = o.offsets }
+
+-- the members of a line before its further ones
+record HasBasis (o : Asked) (es : List Entry) : Type 0 where
+  from : needed members.From es ≡ Ok (date_tree o.from_day)
+  days : needed members.Days es ≡ Ok (number_tree (pos o.days))
+  method : needed members.Method es ≡ Ok (text (method_word o.method))
+  asr : needed members.Asr es ≡ Ok (text (asr_word o.asr))
+  zone : needed members.Zone es ≡ Ok (zone_tree o.zone)
+
+basis_again : (o : Asked) (es : List Entry) → IsOrder o → HasBasis o es → basis_of es ≡ Ok (basis_in o)
+unfolding basis_of
+basis_again o es h has =
+    rw (
+      has.from,
+      from_again o.from_day (first_is_day o h),
+      has.days,
+      days_again o.from_day o.days h.some_days h.few_days h.not_late,
+      has.method,
+      method_again o.method,
+      has.asr,
+      asr_again o.asr,
+      has.zone,
+      zone_again o.zone o.from_day o.days o.offsets h.some_days h.known_zone h.offset_each,
+      offsets_again o.zone o.from_day o.days o.offsets h.offset_each,
+    ) refl
+
+abbrev version_by : Bool → ℕ
+version_by true = 1
+version_by false = 2
+
+abbrev extras_in : Asked → Extras
+extras_in o = record { height = o.height; late = o.late; sun = o.sun }
+
+basis_stands : (b : Bool) (o : Asked) → HasBasis o (map entry_of (fields_by b o))
+unfolding values_named
+basis_stands true o = record { from = refl; days = refl; method = refl; asr = refl; zone = refl }
+basis_stands false o = record { from = refl; days = refl; method = refl; asr = refl; zone = refl }
+
+extras_same : (height k : ℕ) (late l : List (ℤ × ℤ)) (sun t : SunChoice) → height ≡ k → late ≡ l → sun ≡ t → ◌≡◌ {A = Result Extras OrderFault} (Ok (record { height = height; late = late; sun = sun })) (Ok (record { height = k; late = l; sun = t }))
+extras_same height k late l sun t p q r = rw (p, q, r) refl
+
+empty_is : (late : List (ℤ × ℤ)) → is_empty late ≡ true → late ≡ []
+empty_is [] h = refl
+empty_is (range ∷ late) h = cc
+
+zero_is : (height : ℕ) → (height == 0) ≡ true → height ≡ 0
+zero_is height h = grind (arith, nat_tests)
+
+extras_again : (b : Bool) (o : Asked) → IsOrder o → is_first o ≡ b → line_extras_of (version_by b) o.method (map entry_of (fields_by b o)) ≡ Ok (extras_in o)
+unfolding second_extras_of values_named
+extras_again true o h first =
+    let none = and_parts (o.height == 0) (is_empty o.late) first in
+    extras_same 0 o.height [] o.late Usno o.sun (sym (zero_is o.height none.0)) (sym (empty_is o.late none.1)) (sym h.known_sun)
+extras_again false o h first =
+    rw (height_again o.height h.low, late_again o.method o.late h.late_in_range)
+    (extras_same o.height o.height o.late o.late Usno o.sun refl refl (sym h.known_sun))
+
+version_stands : (b : Bool) (o : Asked) → needed members.Version (map entry_of (fields_by b o)) ≡ Ok (number_tree (pos (version_by b)))
+unfolding values_named
+version_stands true o = refl
+version_stands false o = refl
+
+version_read : (b : Bool) → version_in (number_tree (pos (version_by b))) ≡ Ok (version_by b)
+version_read true = version_again 1 (omega arith) (omega arith)
+version_read false = version_again 2 (omega arith) (omega arith)
+
+district_stands : (b : Bool) (o : Asked) → needed members.District (map entry_of (fields_by b o)) ≡ Ok (district_tree o.district)
+unfolding values_named
+district_stands true o = refl
+district_stands false o = refl
+
+order_again : (b : Bool) (o : Asked) → IsOrder o → is_first o ≡ b → line_order_of (map entry_of (fields_by b o)) ≡ Ok o
+unfolding line_order_of
+order_again b o h first =
+    let es = map entry_of (fields_by b o) in
+    rw (version_stands b o, version_read b, basis_again o es h (basis_stands b o), extras_again b o h first, district_stands b o, district_again o.district h.sound) refl
+
+-- the tree of an order's line is read as that order
+pub read_again : (o : Asked) → IsOrder o → line_order_in (line_tree o) ≡ Ok o
+unfolding line_order_in line_tree
+read_again o h =
+    ap line_order_of (entries_in_before (map entry_of (fields_by (is_first o) o))) ∙ order_again (is_first o) o h refl

@@ -1,0 +1,321 @@
+-- What is read as an order keeps the rule of every order.
+use Rattle.std.proofs.Common.{◌≡◌, ◌∙◌, ap, refl, sym, subst, ℕ, ◌≤◌, ℤ, pos, neg_ℤ, ◌+ℤ◌, ◌≤ℤ◌, Bool, true, false, cond, ◌&&◌, List, [], Option, Some, None, option_map, option_and_then, Result, Ok, Err, arith}
+use Rattle.std.specs.Prelude.{bytes_eq, int_le, nat_le, unsigned_abs}
+use Rattle.std.specs.Option.{ok_or}
+use Rattle.std.proofs.lemmas.Int.{ints}
+use Rattle.std.proofs.lemmas.Option.{cond_some}
+use Rattle.exact_json.specs.Micro.{whole_of}
+use Rattle.exact_json.specs.Tree.{Tree, Entry}
+use Rattle.exact_json.specs.declared.decimal.Decimal.{Decimal}
+use Rattle.exact_json.specs.declared.fault.JsonFault.{JsonFault}
+use Rattle.method_table.specs.declared.method.Asr.{Asr}
+use Rattle.method_table.specs.declared.method.Method.{Method}
+use Rattle.order_reader.proofs.DateTexts.{day_bounds}
+use Rattle.order_reader.proofs.SignedLemmas.{between, le_from_test}
+use Rattle.order_reader.specs.Asked.{Asked}
+use Rattle.order_reader.specs.Dates.{civil_day, day_of, unless_far, ymd_in}
+use Rattle.order_reader.specs.Each.{each_of}
+use Rattle.order_reader.specs.Geometry.{geometry_of, line_district_of}
+use Rattle.order_reader.specs.Gives.{◌>>=◌}
+use Rattle.order_reader.specs.Late.{may_be_late}
+use Rattle.order_reader.specs.LineReading.{first_extras, line_district, line_extras_of, line_order_in, line_order_of, second_extras_of, version_in}
+use Rattle.order_reader.specs.Lookup.{list_in, number_in, object_in, text_in}
+use Rattle.order_reader.specs.Members.{asr_in, days_in, days_of, from_in, height_in, late_in, late_of, method_in, offsets_in, pair_in, range_of, sun_in, sun_of, whole_within, zone_by, zone_in, zone_of_number, zone_of_text}
+use Rattle.order_reader.specs.Offsets.{first_day, is_day, is_zone, last_day, offsets_of}
+use Rattle.order_reader.specs.Reading as reading
+use Rattle.order_reader.specs.Reading.{Basis, Extras, asked_by, basis_of, district_in, district_of, extras_of, height_of, needed, night_of, optional, or_absent, order_in, order_of, unless_refused}
+use Rattle.order_reader.specs.Reads.{OrdersKeepTheRule, answer_by}
+use Rattle.order_reader.specs.Rule.{IsOrder}
+use Rattle.order_reader.specs.declared.date.Ymd.{Ymd}
+use Rattle.order_reader.specs.declared.fault.Member.TheVariants as members
+use Rattle.order_reader.specs.declared.fault.OrderFault.{OrderFault}
+use Rattle.order_reader.specs.declared.fault.OrderFault.TheVariants.{Kind, Range, Geometry}
+use Rattle.region.specs.Faults.{first_fault}
+use Rattle.region.specs.Rings.{Polygon}
+use Rattle.region.specs.declared.faults.RegionFault.{RegionFault}
+use Rattle.year_table.specs.Lines.{sun_word}
+use Rattle.year_table.specs.Rules.{is_rule}
+use Rattle.year_table.specs.declared.head.SunChoice.{SunChoice}
+use Rattle.year_table.specs.declared.head.SunChoice.TheVariants.{Usno}
+use Rattle.year_table.specs.declared.zone.Zone.{Zone}
+use Rattle.year_table.specs.declared.zone.Zone.TheVariants.{Fixed, Rule}
+
+-- Steps that succeed.
+
+then_ok : {A B : Type 0} (r : Result A OrderFault) (f : A → Result B OrderFault) (y : B) → (r >>= f) ≡ Ok y → (x : A) × (r ≡ Ok x) × (f x ≡ Ok y)
+then_ok (Ok x) f y e = (x, refl, e)
+then_ok (Err fault) f y e = absurd cc
+
+or_ok : {A : Type 0} (o : Option A) (fault : OrderFault) (x : A) → ok_or o fault ≡ Ok x → o ≡ Some x
+or_ok (Some y) fault x e = cc
+or_ok None fault x e = absurd cc
+
+and_then_some : {A B : Type 0} (f : A → Option B) (o : Option A) (y : B) → option_and_then f o ≡ Some y → (x : A) × (o ≡ Some x) × (f x ≡ Some y)
+and_then_some f (Some x) y e = (x, refl, e)
+and_then_some f None y e = absurd cc
+
+map_some : {A B : Type 0} (f : A → B) (o : Option A) (y : B) → option_map f o ≡ Some y → (x : A) × (o ≡ Some x) × (f x ≡ y)
+map_some f (Some x) y e = (x, refl, cc)
+map_some f None y e = absurd cc
+
+optional_ok : {A : Type 0} (absent : A) (read : Tree → Result A OrderFault) (P : A → Type 0) → P absent → ((t : Tree) (x : A) → read t ≡ Ok x → P x) → (r : Result (Option Tree) OrderFault) (x : A) → (r >>= or_absent absent read) ≡ Ok x → P x
+optional_ok absent read P none some (Ok None) x e = (let same : absent ≡ x = cc in subst P same none)
+optional_ok absent read P none some (Ok (Some t)) x e = some t x e
+optional_ok absent read P none some (Err fault) x e = absurd cc
+
+-- The members.
+
+whole_kept : (low high z : ℤ) (d : Decimal) → whole_within low high d ≡ Some z → (low ≤ℤ z) × (z ≤ℤ high)
+whole_kept low high z d e =
+    let found = and_then_some (λ n. cond (int_le low n && int_le n high) (Some n) None) (whole_of d) z e in
+    let inside = cond_some (int_le low found.0 && int_le found.0 high) found.0 z found.2 in
+    subst (λ n. (low ≤ℤ n) × (n ≤ℤ high)) inside.1 (between low high found.0 inside.0)
+
+day_kept : (o : Option Ymd) (day : ℤ) → (ok_or o (Kind members.From) >>= λ ymd. ok_or (day_of ymd) (Range members.From)) ≡ Ok day → is_day day ≡ true
+unfolding day_of
+day_kept None day e = absurd cc
+day_kept (Some ymd) day e =
+    let found = and_then_some unless_far (civil_day ymd) day (or_ok (day_of ymd) (Range members.From) day e) in
+    let inside = cond_some (is_day found.0) found.0 day found.2 in
+    subst (λ d. is_day d ≡ true) inside.1 inside.0
+
+from_kept : (t : Tree) (day : ℤ) → from_in t ≡ Ok day → is_day day ≡ true
+unfolding from_in
+from_kept t day e = day_kept (option_and_then ymd_in (text_in t)) day e
+
+record AreDays (from : ℤ) (days : ℕ) : Type 0 where
+  some : 1 ≤ days
+  few : days ≤ 366
+  late : (from +ℤ pos days) ≤ℤ (last_day +ℤ pos 1)
+
+days_found : (from n : ℤ) (days : ℕ) → pos 1 ≤ℤ n → n ≤ℤ pos 366 → days_of from n ≡ Some days → AreDays from days
+days_found from n days low high e =
+    let inside = cond_some (int_le (from +ℤ n) (last_day +ℤ pos 1)) (unsigned_abs n) days e in
+    let within = le_from_test (from +ℤ n) (last_day +ℤ pos 1) inside.0 in
+    let is : unsigned_abs n ≡ days = inside.1 in
+    record { some = omega (arith, ints); few = omega (arith, ints); late = omega (arith, ints, within) }
+
+days_by : (from : ℤ) (o : Option Decimal) (days : ℕ) → (ok_or o (Kind members.Days) >>= λ number. ok_or (option_and_then (days_of from) (whole_within (pos 1) (pos 366) number)) (Range members.Days)) ≡ Ok days → AreDays from days
+days_by from None days e = absurd cc
+days_by from (Some d) days e =
+    let found = and_then_some (days_of from) (whole_within (pos 1) (pos 366) d) days (or_ok _ (Range members.Days) days e) in
+    let range = whole_kept (pos 1) (pos 366) found.0 d found.1 in
+    days_found from found.0 days range.0 range.1 found.2
+
+days_kept : (from : ℤ) (t : Tree) (days : ℕ) → days_in from t ≡ Ok days → AreDays from days
+unfolding days_in
+days_kept from t days e = days_by from (number_in t) days e
+
+zone_known : (o : Option ℤ) (zone : Zone) → ok_or (option_map (λ minutes. Fixed minutes) o) (Range members.Zone) ≡ Ok zone → is_zone zone ≡ true
+zone_known (Some minutes) zone e = (let same : Fixed minutes ≡ zone = cc in subst (λ z. is_zone z ≡ true) same refl)
+zone_known None zone e = absurd cc
+
+rule_known : (text : List ℕ) (b : Bool) (zone : Zone) → is_rule text ≡ b → ◌≡◌ {A = Result Zone OrderFault} (cond b (Ok (Rule text)) (Err (Kind members.Zone))) (Ok zone) → is_zone zone ≡ true
+rule_known text true zone is e = (let same : Rule text ≡ zone = cc in subst (λ z. is_zone z ≡ true) same is)
+rule_known text false zone is e = absurd cc
+
+zone_by_known : (d : Option Decimal) (text : Option (List ℕ)) (zone : Zone) → zone_by d text ≡ Ok zone → is_zone zone ≡ true
+zone_by_known (Some d) text zone e = zone_known (whole_within (neg_ℤ (pos 720)) (pos 840) d) zone e
+zone_by_known None (Some text) zone e = rule_known text (is_rule text) zone refl e
+zone_by_known None None zone e = absurd cc
+
+zone_kept : (t : Tree) (zone : Zone) → zone_in t ≡ Ok zone → is_zone zone ≡ true
+unfolding zone_in
+zone_kept t zone e = zone_by_known (number_in t) (text_in t) zone e
+
+offsets_kept : (from : ℤ) (days : ℕ) (zone : Zone) (offsets : List ℤ) → offsets_in from days zone ≡ Ok offsets → offsets_of zone from days ≡ Some offsets
+unfolding offsets_in
+offsets_kept from days zone offsets e = or_ok (offsets_of zone from days) (Range members.Zone) offsets e
+
+height_by : (o : Option Decimal) (height : ℕ) → (ok_or o (Kind members.Height) >>= λ number. ok_or (option_map unsigned_abs (whole_within (pos 0) (pos 9000) number)) (Range members.Height)) ≡ Ok height → height ≤ 9000
+height_by None height e = absurd cc
+height_by (Some d) height e =
+    let found = map_some unsigned_abs (whole_within (pos 0) (pos 9000) d) height (or_ok _ (Range members.Height) height e) in
+    let range = whole_kept (pos 0) (pos 9000) found.0 d found.1 in
+    omega (arith, ints, found.2, range.0, range.1)
+
+height_kept : (t : Tree) (height : ℕ) → height_in t ≡ Ok height → height ≤ 9000
+unfolding height_in
+height_kept t height e = height_by (number_in t) height e
+
+late_by : (method : Method) (o : Option (List (Ymd × Ymd))) (late : List (ℤ × ℤ)) → (ok_or o (Kind members.LateIsha) >>= λ pairs. ok_or (option_and_then (late_of method) (each_of range_of pairs)) (Range members.LateIsha)) ≡ Ok late → may_be_late method late ≡ true
+late_by method None late e = absurd cc
+late_by method (Some pairs) late e =
+    let found = and_then_some (late_of method) (each_of range_of pairs) late (or_ok _ (Range members.LateIsha) late e) in
+    let inside = cond_some (may_be_late method found.0) found.0 late found.2 in
+    subst (λ l. may_be_late method l ≡ true) inside.1 inside.0
+
+late_kept : (method : Method) (t : Tree) (late : List (ℤ × ℤ)) → late_in method t ≡ Ok late → may_be_late method late ≡ true
+unfolding late_in
+late_kept method t late e = late_by method (option_and_then (each_of pair_in) (list_in t)) late e
+
+usno_word : (sun : SunChoice) (b : Bool) → cond b (Some Usno) None ≡ Some sun → sun ≡ Usno
+usno_word sun true e = cc
+usno_word sun false e = absurd cc
+
+sun_by : (o : Option (List ℕ)) (sun : SunChoice) → (ok_or o (Kind members.Sun) >>= λ word. ok_or (sun_of word) (Range members.Sun)) ≡ Ok sun → sun ≡ Usno
+sun_by None sun e = absurd cc
+sun_by (Some word) sun e = usno_word sun (bytes_eq (sun_word Usno) word) (or_ok (sun_of word) (Range members.Sun) sun e)
+
+sun_kept : (t : Tree) (sun : SunChoice) → sun_in t ≡ Ok sun → sun ≡ Usno
+sun_kept t sun e = sun_by (text_in t) sun e
+
+unless_refused_ok : (found polygons : List Polygon) (fault : Option RegionFault) → first_fault found ≡ fault → unless_refused found fault ≡ Ok polygons → first_fault polygons ≡ None
+unless_refused_ok found polygons None is e = (let same : found ≡ polygons = cc in subst (λ p. first_fault p ≡ None) same is)
+unless_refused_ok found polygons (Some fault) is e = absurd cc
+
+sound_by : {A : Type 0} (o : Option A) (fault : OrderFault) (read : A → Option (List Polygon)) (polygons : List Polygon) → (ok_or o fault >>= λ x. (ok_or (read x) Geometry >>= district_of)) ≡ Ok polygons → first_fault polygons ≡ None
+sound_by o fault read polygons e =
+    let x = then_ok (ok_or o fault) (λ y. ok_or (read y) Geometry >>= district_of) polygons e in
+    let found = then_ok (ok_or (read x.0) Geometry) district_of polygons x.2 in
+    unless_refused_ok found.0 polygons (first_fault found.0) refl found.2
+
+district_kept : (t : Tree) (polygons : List Polygon) → district_in t ≡ Ok polygons → first_fault polygons ≡ None
+unfolding district_in
+district_kept t polygons e = sound_by (object_in t) (Kind members.District) geometry_of polygons e
+
+line_district_kept : (t : Tree) (polygons : List Polygon) → line_district t ≡ Ok polygons → first_fault polygons ≡ None
+unfolding line_district
+line_district_kept t polygons e = sound_by (list_in t) (Kind members.District) line_district_of polygons e
+
+-- Orders.
+
+record KeepsBasis (b : Basis) : Type 0 where
+  day : is_day b.from_day ≡ true
+  days : AreDays b.from_day b.days
+  zone : is_zone b.zone ≡ true
+  offsets : offsets_of b.zone b.from_day b.days ≡ Some b.offsets
+
+basis_from : (f : ℤ) (n : ℕ) (m : Method) (a : Asr) (z : Zone) (o : List ℤ) (b : Basis) → record { from_day = f; days = n; method = m; asr = a; zone = z; offsets = o } ≡ b → is_day f ≡ true → AreDays f n → is_zone z ≡ true → offsets_of z f n ≡ Some o → KeepsBasis b
+basis_from f n m a z o b same day days zone offsets =
+    subst KeepsBasis same (record { day = day; days = days; zone = zone; offsets = offsets })
+
+module _ (from : Result Tree OrderFault) (days : Result Tree OrderFault) (method : Result Method OrderFault) (asr : Result Asr OrderFault) (zone : Result Tree OrderFault) where
+  abbrev with_zone : ℤ → ℕ → Method → Asr → Zone → Result Basis OrderFault
+  with_zone f n m a z = offsets_in f n z >>= λ o. Ok (record { from_day = f; days = n; method = m; asr = a; zone = z; offsets = o })
+
+  abbrev with_asr : ℤ → ℕ → Method → Asr → Result Basis OrderFault
+  with_asr f n m a = (zone >>= zone_in) >>= with_zone f n m a
+
+  abbrev with_method : ℤ → ℕ → Method → Result Basis OrderFault
+  with_method f n m = asr >>= with_asr f n m
+
+  abbrev with_days : ℤ → ℕ → Result Basis OrderFault
+  with_days f n = method >>= with_method f n
+
+  abbrev with_from : ℤ → Result Basis OrderFault
+  with_from f = (days >>= days_in f) >>= with_days f
+
+  basis_by : (b : Basis) → ((from >>= from_in) >>= with_from) ≡ Ok b → KeepsBasis b
+  basis_by b e =
+      let f = then_ok (from >>= from_in) with_from b e in
+      let n = then_ok (days >>= days_in f.0) (with_days f.0) b f.2 in
+      let m = then_ok method (with_method f.0 n.0) b n.2 in
+      let a = then_ok asr (with_asr f.0 n.0 m.0) b m.2 in
+      let z = then_ok (zone >>= zone_in) (with_zone f.0 n.0 m.0 a.0) b a.2 in
+      let o = then_ok (offsets_in f.0 n.0 z.0) (λ o. Ok (record { from_day = f.0; days = n.0; method = m.0; asr = a.0; zone = z.0; offsets = o })) b z.2 in
+      let ft = then_ok from from_in f.0 f.1 in
+      let nt = then_ok days (days_in f.0) n.0 n.1 in
+      let zt = then_ok zone zone_in z.0 z.1 in
+      basis_from f.0 n.0 m.0 a.0 z.0 o.0 b (cc) (from_kept ft.0 f.0 ft.2) (days_kept f.0 nt.0 n.0 nt.2) (zone_kept zt.0 z.0 zt.2) (offsets_kept f.0 n.0 z.0 o.0 o.1)
+
+basis_kept : (es : List Entry) (b : Basis) → basis_of es ≡ Ok b → KeepsBasis b
+unfolding basis_of
+basis_kept es b e =
+    basis_by (needed members.From es) (needed members.Days es) (needed members.Method es >>= method_in) (needed members.Asr es >>= asr_in) (needed members.Zone es) b e
+
+record KeepsExtras (method : Method) (x : Extras) : Type 0 where
+  low : x.height ≤ 9000
+  late : may_be_late method x.late ≡ true
+  sun : x.sun ≡ Usno
+
+module _ (method : Method) (es : List Entry) where
+  abbrev with_sun : ℕ → List (ℤ × ℤ) → SunChoice → Result Extras OrderFault
+  with_sun h l s = night_of es >>= λ _. Ok (record { height = h; late = l; sun = s })
+
+  abbrev with_late : ℕ → List (ℤ × ℤ) → Result Extras OrderFault
+  with_late h l = reading.sun_of es >>= with_sun h l
+
+  abbrev with_height : ℕ → Result Extras OrderFault
+  with_height h = reading.late_of method es >>= with_late h
+
+  extras_kept : (x : Extras) → extras_of method es ≡ Ok x → KeepsExtras method x
+  unfolding extras_of
+  extras_kept x e =
+      let h = then_ok (height_of es) with_height x e in
+      let l = then_ok (reading.late_of method es) (with_late h.0) x h.2 in
+      let s = then_ok (reading.sun_of es) (with_sun h.0 l.0) x l.2 in
+      let n = then_ok (night_of es) (λ _. Ok (record { height = h.0; late = l.0; sun = s.0 })) x s.2 in
+      let same : record { height = h.0; late = l.0; sun = s.0 } ≡ x = cc in
+      subst (KeepsExtras method) same (record {
+        low = optional_ok 0 height_in (λ k. k ≤ 9000) (omega arith) height_kept (optional members.Height es) h.0 h.1;
+        late = optional_ok [] (late_in method) (λ k. may_be_late method k ≡ true) refl (late_kept method) (optional members.LateIsha es) l.0 l.1;
+        sun = optional_ok Usno sun_in (λ k. k ≡ Usno) refl sun_kept (optional members.Sun es) s.0 s.1;
+      })
+
+  second_kept : (x : Extras) → second_extras_of method es ≡ Ok x → KeepsExtras method x
+  unfolding second_extras_of
+  second_kept x e =
+      let h = then_ok (needed members.Height es >>= height_in) (λ k. (needed members.LateIsha es >>= late_in method) >>= λ l. Ok (record { height = k; late = l; sun = Usno })) x e in
+      let l = then_ok (needed members.LateIsha es >>= late_in method) (λ k. Ok (record { height = h.0; late = k; sun = Usno })) x h.2 in
+      let ht = then_ok (needed members.Height es) height_in h.0 h.1 in
+      let lt = then_ok (needed members.LateIsha es) (late_in method) l.0 l.1 in
+      let same : record { height = h.0; late = l.0; sun = Usno } ≡ x = cc in
+      subst (KeepsExtras method) same (record { low = height_kept ht.0 h.0 ht.2; late = late_kept method lt.0 l.0 lt.2; sun = refl })
+
+  line_extras_by : (b : Bool) (x : Extras) → cond b (second_extras_of method es) (Ok first_extras) ≡ Ok x → KeepsExtras method x
+  line_extras_by true x e = second_kept x e
+  line_extras_by false x e =
+      let same : first_extras ≡ x = cc in
+      subst (KeepsExtras method) same (record { low = omega arith; late = refl; sun = refl })
+
+parts_kept : (b : Basis) (x : Extras) (polygons : List Polygon) (o : Asked) → KeepsBasis b → KeepsExtras b.method x → first_fault polygons ≡ None → asked_by b x polygons ≡ o → IsOrder o
+parts_kept b x polygons o basis extras sound same =
+    subst IsOrder same (record {
+      not_early = (day_bounds b.from_day basis.day).0;
+      not_late = basis.days.late;
+      some_days = basis.days.some;
+      few_days = basis.days.few;
+      known_zone = basis.zone;
+      offset_each = basis.offsets;
+      low = extras.low;
+      late_in_range = extras.late;
+      known_sun = extras.sun;
+      sound = sound;
+    })
+
+members_kept : (es : List Entry) (o : Asked) → order_of es ≡ Ok o → IsOrder o
+unfolding order_of
+members_kept es o e =
+    let b = then_ok (basis_of es) (λ b. extras_of b.method es >>= λ x. (needed members.District es >>= district_in) >>= λ p. Ok (asked_by b x p)) o e in
+    let x = then_ok (extras_of b.0.method es) (λ x. (needed members.District es >>= district_in) >>= λ p. Ok (asked_by b.0 x p)) o b.2 in
+    let p = then_ok (needed members.District es >>= district_in) (λ p. Ok (asked_by b.0 x.0 p)) o x.2 in
+    let t = then_ok (needed members.District es) district_in p.0 p.1 in
+    parts_kept b.0 x.0 p.0 o (basis_kept es b.0 b.1) (extras_kept b.0.method es x.0 x.1) (district_kept t.0 p.0 t.2) cc
+
+line_members_kept : (es : List Entry) (o : Asked) → line_order_of es ≡ Ok o → IsOrder o
+unfolding line_order_of
+line_members_kept es o e =
+    let v = then_ok (needed members.Version es >>= version_in) (λ v. basis_of es >>= λ b. line_extras_of v b.method es >>= λ x. (needed members.District es >>= line_district) >>= λ p. Ok (asked_by b x p)) o e in
+    let b = then_ok (basis_of es) (λ b. line_extras_of v.0 b.method es >>= λ x. (needed members.District es >>= line_district) >>= λ p. Ok (asked_by b x p)) o v.2 in
+    let x = then_ok (line_extras_of v.0 b.0.method es) (λ x. (needed members.District es >>= line_district) >>= λ p. Ok (asked_by b.0 x p)) o b.2 in
+    let p = then_ok (needed members.District es >>= line_district) (λ p. Ok (asked_by b.0 x.0 p)) o x.2 in
+    let t = then_ok (needed members.District es) line_district p.0 p.1 in
+    parts_kept b.0 x.0 p.0 o (basis_kept es b.0 b.1) (line_extras_by b.0.method es (nat_le 2 v.0) x.0 x.1) (line_district_kept t.0 p.0 t.2) cc
+
+-- what is read as an order is one
+pub order_kept : (t : Tree) (o : Asked) → order_in t ≡ Ok o → IsOrder o
+unfolding order_in
+order_kept t o e = (let es = then_ok (ok_or (object_in t) (Kind members.Order)) order_of o e in members_kept es.0 o es.2)
+
+-- as a canonical line too
+pub line_kept : (t : Tree) (o : Asked) → line_order_in t ≡ Ok o → IsOrder o
+unfolding line_order_in
+line_kept t o e = (let es = then_ok (ok_or (object_in t) (Kind members.Order)) line_order_of o e in line_members_kept es.0 o es.2)
+
+kept_by : (r : Result Tree JsonFault) (o : Asked) → Ok o ≡ answer_by order_in r → IsOrder o
+kept_by (Ok t) o e = order_kept t o (sym e)
+kept_by (Err fault) o e = absurd cc
+
+pub orders_keep_the_rule : OrdersKeepTheRule
+orders_keep_the_rule bytes o (r, is, e) = kept_by r o e

@@ -1,0 +1,30 @@
+-- Laws of canonical lines.
+use Rattle.std.specs.Prelude.{◌≡◌, ℕ, ◌≤◌, Result, Ok}
+use Rattle.std.specs.Option.{ok_or}
+use Rattle.exact_json.specs.Tree.{Tree}
+use Rattle.order_reader.specs.Asked.{Asked}
+use Rattle.order_reader.specs.Gives.{◌>>=◌}
+use Rattle.order_reader.specs.Line.{order_body, version_of}
+use Rattle.order_reader.specs.LineReading.{line_order_in, version_in}
+use Rattle.order_reader.specs.Lookup.{object_in}
+use Rattle.order_reader.specs.Reading.{needed}
+use Rattle.order_reader.specs.Reads.{ReadsLine}
+use Rattle.order_reader.specs.Rule.{IsOrder}
+use Rattle.order_reader.specs.declared.fault.Member.TheVariants.{Order, Version}
+use Rattle.order_reader.specs.declared.fault.OrderFault.{OrderFault}
+use Rattle.order_reader.specs.declared.fault.OrderFault.TheVariants.{Kind}
+
+-- an order's line without its LF is read as that order
+abbrev pub LinesAreReadAgain : Type 0
+LinesAreReadAgain = (o : Asked) → IsOrder o → ReadsLine (order_body o) (Ok o)
+
+-- the version that a line's tree states
+abbrev pub stated_version : Tree → Result ℕ OrderFault
+stated_version t = do
+  es ← ok_or (object_in t) (Kind Order)
+  needed Version es >>= version_in
+
+-- no line that is read as an order states a lower version than the order's own line
+abbrev pub VersionsAreLeast : Type 0
+VersionsAreLeast =
+    (t : Tree) (o : Asked) (version : ℕ) → stated_version t ≡ Ok version → line_order_in t ≡ Ok o → version_of o.height o.late ≤ version
