@@ -4,6 +4,8 @@
 
 mod border;
 mod boxes;
+mod cells;
+mod counting;
 mod json;
 mod series;
 mod sums;
@@ -12,20 +14,22 @@ use anyhow::{Context, Result, bail};
 use std::alloc::Global;
 use std::env;
 
-const USAGE: &str = "usage: kernel_bench series|contains|meets|meets_by_strip COUNT | json";
+const USAGE: &str = "usage: kernel_bench series|contains|meets|meets_by_strip COUNT | json | cells";
 
 fn main(rt: HostRuntime) -> Result<()> {
     let mut words = env::args(&rt)?.skip(1);
     let kernel = words.next().context(USAGE)?;
-    let sum = if kernel.as_str() == "json" {
-        json::items(rt.alloc(), rt.stdin())?
-    } else {
-        let count = words.next().context(USAGE)?;
-        let count = count
-            .as_str()
-            .parse::<u64>()
-            .context("a count is a whole number")?;
-        counted(rt.alloc(), kernel.as_str(), count)?
+    let sum = match kernel.as_str() {
+        "json" => json::items(rt.alloc(), rt.stdin())?,
+        "cells" => cells::judged(rt.alloc(), rt.stdin())?,
+        kernel => {
+            let count = words.next().context(USAGE)?;
+            let count = count
+                .as_str()
+                .parse::<u64>()
+                .context("a count is a whole number")?;
+            counted(rt.alloc(), kernel, count)?
+        }
     };
     println!(rt; "{sum}")?;
     Ok(())
