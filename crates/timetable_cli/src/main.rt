@@ -2,7 +2,7 @@
 // Contract: none of its own; it ends with the status that `run_plain` answers.
 #![tactic(auto)]
 
-use source_sink::{StdSink, StdSource};
+use source_sink::{StdSink, StdSource, write_all};
 use std::env;
 use std::io::ErrorKind;
 use std::process::ExitCode;
@@ -27,13 +27,16 @@ fn words(rt: &(impl Env + AllocGlobal)) -> Result<Vec<String>, Status> {
 }
 
 fn run(rt: &HostRuntime) -> Status {
-    let words = match words(rt) {
-        Ok(words) => words,
-        Err(status) => return status,
-    };
     let mut source = StdSource::new(rt.stdin());
     let mut out = StdSink::new(rt.stdout());
     let mut err = StdSink::new(rt.stderr());
+    let words = match words(rt) {
+        Ok(words) => words,
+        Err(status) => {
+            let _ = write_all(&mut err, b"no memory\n");
+            return status;
+        }
+    };
     run_plain(rt.alloc(), &words, &mut source, &mut out, &mut err)
 }
 
