@@ -12,9 +12,9 @@ import collections
 import json
 import math
 import random
-import shlex
-import subprocess
 import sys
+
+from answers import answer, words_given
 
 METHODS = ['mwl', 'isna', 'egypt', 'karachi', 'makkah', 'tehran', 'jafari']
 RULES = ['UTC0', '<+03>-3', 'AAA-14', 'AAA12', 'CET-1CEST,M3.5.0,M10.5.0/3', 'EST5EDT,M3.2.0,M11.1.0',
@@ -270,21 +270,13 @@ def order(draw, plain=False):
     return change_bytes(draw, text) if kind == 7 else text
 
 
-def answer(command, word, text):
-    run = subprocess.run(shlex.split(command) + [word], input=text, capture_output=True)
-    return run.returncode, run.stdout, run.stderr
-
-
 def main():
-    if len(sys.argv) not in (4, 5):
-        sys.exit(__doc__)
-    count, program, reference = int(sys.argv[1]), sys.argv[2], sys.argv[3]
-    draw = random.Random(int(sys.argv[4]) if len(sys.argv) == 5 else 1)
+    count, program, reference, draw = words_given(__doc__)
     met, different = collections.Counter(), 0
     for i in range(count + count // 5):
         word = 'order' if i < count else 'plain'
         text = order(draw, word == 'plain')
-        found, wanted = answer(program, word, text), answer(reference, word, text)
+        found, wanted = answer(program, [word], text), answer(reference, [word], text)
         met[word, wanted[0]] += 1
         if found != wanted:
             different += 1

@@ -6,10 +6,9 @@ PROGRAM and REFERENCE are commands, each one argument, as './timetable' or 'pyth
 the words of `sun`. Compared are the output, the error stream and the status. The limits of each word are among them,
 and spellings with and without a point. It prints what differs, and exits with 1 if anything did.
 """
-import random
-import shlex
-import subprocess
 import sys
+
+from answers import answer, words_given
 
 MINUTES = ['0', '-1', '53200000', '-53200000']
 LONGITUDES = ['0', '-0', '360', '-360', '360.000000', '0.000001', '-0.000001', '007.5']
@@ -40,16 +39,8 @@ def words(draw):
     ]
 
 
-def answer(command, line):
-    run = subprocess.run(shlex.split(command) + line, stdin=subprocess.DEVNULL, capture_output=True)
-    return run.returncode, run.stdout, run.stderr
-
-
 def main():
-    if len(sys.argv) not in (4, 5):
-        sys.exit(__doc__)
-    count, program, reference = int(sys.argv[1]), sys.argv[2], sys.argv[3]
-    draw = random.Random(int(sys.argv[4]) if len(sys.argv) == 5 else 1)
+    count, program, reference, draw = words_given(__doc__)
     different = 0
     for _ in range(count):
         line = words(draw)
