@@ -1,5 +1,7 @@
 pub mod FractionSums
 pub mod PiLaws
+pub mod Mirrored
+pub mod MagnitudeSteps
 pub mod SeriesSteps
 pub mod SeriesLaws
 pub mod SeriesNesting

@@ -1,4 +1,5 @@
 pub mod Angle
+pub mod Magnitudes
 pub mod Pi
 pub mod Series
 pub mod Quarters

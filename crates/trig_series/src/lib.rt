@@ -2,7 +2,10 @@
 // Contract: each call gives the enclosure of its definition on the grid, to the last place.
 #![tactic(auto)]
 
+mod alternating;
+mod by_sign;
 mod laws;
+mod magnitudes;
 mod quarters;
 mod series;
 #[cfg(test)]

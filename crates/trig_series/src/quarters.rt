@@ -11,7 +11,8 @@ ghost use Rattle.trig_series.specs.Series.{grid_sine_series, grid_cosine_series}
 ghost use Rattle.trig_series.specs.Sine.{modulo_4, grid_quarters_on, grid_sine, grid_cosine, grid_sine_beyond};
 
 use crate::Angle;
-use crate::series::{cosine_series, negated, pi, sine_series};
+use crate::by_sign::{cosine_of_radians, sine_of_radians};
+use crate::series::{negated, pi};
 use fixed_interval::Interval;
 
 /// 45 degrees, in angle units.
@@ -115,9 +116,9 @@ fn sine_beyond(quarters: i128, x: Interval) -> Interval
     ensures { ends result ≡ grid_quarters_on (modulo_4 quarters) (grid_sine_series (ends x)) (grid_cosine_series (ends x)) }
 {
     match quarters.rem_euclid(4) {
-        0 => sine_series(x),
-        1 => cosine_series(x),
-        2 => negated(sine_series(x)),
-        _ => negated(cosine_series(x)),
+        0 => sine_of_radians(x),
+        1 => cosine_of_radians(x),
+        2 => negated(sine_of_radians(x)),
+        _ => negated(cosine_of_radians(x)),
     }
 }

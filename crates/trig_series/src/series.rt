@@ -9,7 +9,7 @@ ghost use Rattle.trig_series.specs.Series.{next_grid_term, grid_term, grid_margi
 use fixed_interval::Interval;
 
 /// How many terms of a series are added.
-const TERMS: u64 = 12;
+pub(crate) const TERMS: u64 = 12;
 
 /// The number 1 on the grid.
 const ONE: i128 = 1 << 56;
@@ -77,7 +77,7 @@ fn next_term(term: Interval, square: Interval, divisor: u64) -> Interval
 }
 
 /// Twice the greatest magnitude of `next`, either way.
-fn margin(next: Interval) -> Interval
+pub(crate) fn margin(next: Interval) -> Interval
     requires { reach (ends next) ≤ UNIT }
     ensures value { ends result ≡ grid_margin (ends next) }
     ensures bound { reach (ends result) ≤ 2 * UNIT }

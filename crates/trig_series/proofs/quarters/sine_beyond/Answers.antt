@@ -16,7 +16,7 @@ returns-in-0 c =
     let r = c.rem_euclid.result in
     let of_quarters : c.rem_euclid.result ≡ int_rem_euclid c.args.quarters (pos 4) = c.rem_euclid.ensures.value ∙ ap (λ (z : ℤ). int_rem_euclid z (pos 4)) (fitting c.args.quarters c.ranges.quarters) in
     let is : c.rem_euclid.result ≡ pos 0 = omega (arith, ints) in
-    c.sine_series.ensures.value ∙ turned 0 c.args.quarters r (grid_sine_series (ends c.args.x)) (grid_cosine_series (ends c.args.x)) of_quarters is
+    c.sine_of_radians.ensures.value ∙ turned 0 c.args.quarters r (grid_sine_series (ends c.args.x)) (grid_cosine_series (ends c.args.x)) of_quarters is
 
 pub returns-in-1 : goal.returns-in-1
 unfolding grid_quarters_on
@@ -24,7 +24,7 @@ returns-in-1 c =
     let r = c.rem_euclid.result in
     let of_quarters : c.rem_euclid.result ≡ int_rem_euclid c.args.quarters (pos 4) = c.rem_euclid.ensures.value ∙ ap (λ (z : ℤ). int_rem_euclid z (pos 4)) (fitting c.args.quarters c.ranges.quarters) in
     let is : c.rem_euclid.result ≡ pos 1 = omega (arith, ints) in
-    c.cosine_series.ensures.value ∙ turned 1 c.args.quarters r (grid_sine_series (ends c.args.x)) (grid_cosine_series (ends c.args.x)) of_quarters is
+    c.cosine_of_radians.ensures.value ∙ turned 1 c.args.quarters r (grid_sine_series (ends c.args.x)) (grid_cosine_series (ends c.args.x)) of_quarters is
 
 pub returns-in-2 : goal.returns-in-2
 unfolding grid_quarters_on
@@ -32,7 +32,7 @@ returns-in-2 c =
     let r = c.rem_euclid.result in
     let of_quarters : c.rem_euclid.result ≡ int_rem_euclid c.args.quarters (pos 4) = c.rem_euclid.ensures.value ∙ ap (λ (z : ℤ). int_rem_euclid z (pos 4)) (fitting c.args.quarters c.ranges.quarters) in
     let is : c.rem_euclid.result ≡ pos 2 = omega (arith, ints) in
-    c.negated.ensures.value ∙ ap grid_negated c.sine_series-in-2.ensures.value ∙ turned 2 c.args.quarters r (grid_sine_series (ends c.args.x)) (grid_cosine_series (ends c.args.x)) of_quarters is
+    c.negated.ensures.value ∙ ap grid_negated c.sine_of_radians-in-2.ensures.value ∙ turned 2 c.args.quarters r (grid_sine_series (ends c.args.x)) (grid_cosine_series (ends c.args.x)) of_quarters is
 
 pub returns-in_default : goal.returns-in_default
 unfolding grid_quarters_on
@@ -40,4 +40,4 @@ returns-in_default c =
     let r = c.rem_euclid.result in
     let of_quarters : c.rem_euclid.result ≡ int_rem_euclid c.args.quarters (pos 4) = c.rem_euclid.ensures.value ∙ ap (λ (z : ℤ). int_rem_euclid z (pos 4)) (fitting c.args.quarters c.ranges.quarters) in
     let is : c.rem_euclid.result ≡ pos 3 = elim c.in_default.branch [ in_default-via-then-rem_euclid-lt0 w ↦ omega (arith, ints) | in_default-via-else-rem_euclid-lt0+else-this-lt1+else-this-lt2+else-this-lt3 w ↦ omega (arith, ints) ] in
-    c.negated-in_default.ensures.value ∙ ap grid_negated c.cosine_series-in_default.ensures.value ∙ turned 3 c.args.quarters r (grid_sine_series (ends c.args.x)) (grid_cosine_series (ends c.args.x)) of_quarters is
+    c.negated-in_default.ensures.value ∙ ap grid_negated c.cosine_of_radians-in_default.ensures.value ∙ turned 3 c.args.quarters r (grid_sine_series (ends c.args.x)) (grid_cosine_series (ends c.args.x)) of_quarters is

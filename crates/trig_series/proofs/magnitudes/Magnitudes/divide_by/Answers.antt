@@ -1,0 +1,6 @@
+use Rattle.std.proofs.Common.{◌/◌, pos, ◌∙◌}
+use Rattle.trig_series.proofs.MagnitudeSteps.{divided}
+use Rattle.trig_series.proofs.magnitudes.Magnitudes.divide_by.Goals as goal
+
+pub returns : goal.returns
+returns c = (λ i. record { lo = pos (c.args.self.least / c.args.n); hi = pos (c.div_ceil.ensures i) }) ∙ divided c.args.self.least c.args.self.greatest c.args.n c.requires
