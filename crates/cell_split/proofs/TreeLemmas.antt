@@ -1,5 +1,5 @@
 -- The tree ends, and the leaves of a split task are those of its children.
-use Rattle.std.proofs.Common.{◌≡◌, ℕ, zero, suc, ◌+◌, ◌-◌, ◌<◌, ◌≤◌, cond, [], ◌∷◌, ap, arith}
+use Rattle.std.proofs.Common.{◌≡◌, ℕ, zero, suc, ◌+◌, ◌-◌, ◌<◌, ◌≤◌, Bool, true, false, cond, [], ◌∷◌, ap, ◌∙◌, arith}
 use Rattle.std.specs.Prelude.{flat_map}
 use Rattle.cell_split.specs.declared.cell.Task.{Task}
 use Rattle.cell_split.specs.Judges.{Content}
@@ -27,3 +27,9 @@ leaves-step c t =
     (Every-map (λ u. leaves_to (t.cell.size + (t.cell.last - t.cell.first)) c u ≡ leaves c u) (task_of t.problem) (children_of t.cell)
     (Every-weaker (λ d. levels d < levels t.cell) (λ d. leaves_to (t.cell.size + (t.cell.last - t.cell.first)) c (task_of t.problem d) ≡ leaves c (task_of t.problem d)) (children_of t.cell)
     (λ d f. leaves_to-same (t.cell.size + (t.cell.last - t.cell.first)) (levels d) c (task_of t.problem d) (omega arith) (omega arith)) (levels_fall t.cell))))
+
+pub leaves_of_split : (c : Content) (t : Task) → is_split (c.verdict t) ≡ true → leaves c t ≡ flat_map (leaves c) (child_tasks t)
+leaves_of_split c t split = leaves-step c t ∙ ap (λ (b : Bool). cond b (flat_map (leaves c) (child_tasks t)) (leaf_of c t ∷ [])) split
+
+pub leaves_of_leaf : (c : Content) (t : Task) → is_split (c.verdict t) ≡ false → leaves c t ≡ leaf_of c t ∷ []
+leaves_of_leaf c t leaf = leaves-step c t ∙ ap (λ (b : Bool). cond b (flat_map (leaves c) (child_tasks t)) (leaf_of c t ∷ [])) leaf

@@ -12,11 +12,11 @@ use Rattle.cell_split.specs.declared.verdict.Leaf.{Leaf}
 use Rattle.cell_split.specs.declared.verdict.Verdict.{Verdict}
 use Rattle.cell_split.specs.Judges.{Content, IsTask}
 use Rattle.cell_split.specs.Split.{children_of}
-use Rattle.cell_split.specs.Tree.{child_tasks, leaf_of, leaves, task_of}
+use Rattle.cell_split.specs.Tree.{leaves, task_of}
 use Rattle.cell_split.specs.Verdicts.{is_split}
 use Rattle.cell_split.proofs.Every.{Every, Every-weaker, flat_map-map}
 use Rattle.cell_split.proofs.LeafLemmas.{IsUnder, leaves_under}
-use Rattle.cell_split.proofs.TreeLemmas.{leaves-step}
+use Rattle.cell_split.proofs.TreeLemmas.{leaves_of_leaf, leaves_of_split}
 use Rattle.covering.specs.declared.leaf_walk.Sought.{Sought}
 use Rattle.covering.specs.Seeks.{fits, is_sought}
 use Rattle.covering.proofs.Parts.{find-parts_found, find-parts_more}
@@ -25,12 +25,8 @@ use Rattle.covering.proofs.Parts.{find-parts_found, find-parts_more}
 abbrev pub leaves_below : Content → Task → List Leaf
 leaves_below c t = flat_map (λ d. leaves c (task_of t.problem d)) (children_of t.cell)
 
-pub leaves_of_split : (c : Content) (t : Task) → is_split (c.verdict t) ≡ true → leaves c t ≡ leaves_below c t
-leaves_of_split c t split =
-    leaves-step c t ∙ (ap (λ (b : Bool). cond b (flat_map (leaves c) (child_tasks t)) (leaf_of c t ∷ [])) split ∙ flat_map-map (leaves c) (task_of t.problem) (children_of t.cell))
-
-pub leaves_of_leaf : (c : Content) (t : Task) → is_split (c.verdict t) ≡ false → leaves c t ≡ leaf_of c t ∷ []
-leaves_of_leaf c t leaf = leaves-step c t ∙ ap (λ (b : Bool). cond b (flat_map (leaves c) (child_tasks t)) (leaf_of c t ∷ [])) leaf
+pub leaves_are_below : (c : Content) (t : Task) → is_split (c.verdict t) ≡ true → leaves c t ≡ leaves_below c t
+leaves_are_below c t split = leaves_of_split c t split ∙ flat_map-map (leaves c) (task_of t.problem) (children_of t.cell)
 
 -- the rank is none of the cell's
 abbrev pub IsBeyond : ℕ → Task → Type 0
@@ -107,7 +103,7 @@ found_below c t sought rank cells i d (Some l) split same inside none e some =
     let f : Cell → List Leaf = λ cell. leaves c (task_of t.problem cell) in
     let all = find-parts_found (is_sought sought rank) f cells i d l inside none (sym e) in
     let below = ap (λ (ds : List Cell). find (is_sought sought rank) (flat_map f ds)) same in
-    sym (ap (find (is_sought sought rank)) (leaves_of_split c t split) ∙ (sym below ∙ all))
+    sym (ap (find (is_sought sought rank)) (leaves_are_below c t split) ∙ (sym below ∙ all))
 
 pub none_below_more : (c : Content) (t : Task) (sought : Sought) (rank : ℕ) (cells : List Cell) (i : ℕ) (d : Cell) (found : Option Leaf) → i < length cells → NoneSoFar c t sought rank cells i → found ≡ find (is_sought sought rank) (leaves c (task_of t.problem (get_or cells i d))) → is_some found ≡ false → NoneSoFar c t sought rank cells (i + 1)
 none_below_more c t sought rank cells i d None inside none e some =
@@ -118,4 +114,4 @@ pub none_below : (c : Content) (t : Task) (sought : Sought) (rank : ℕ) (cells 
 none_below c t sought rank cells i split same end none =
     let f : Cell → List Leaf = λ cell. leaves c (task_of t.problem cell) in
     let all : take i cells ≡ children_of t.cell = take_all i cells end ∙ same in
-    sym (ap (find (is_sought sought rank)) (leaves_of_split c t split) ∙ (sym (ap (λ (ds : List Cell). find (is_sought sought rank) (flat_map f ds)) all) ∙ none))
+    sym (ap (find (is_sought sought rank)) (leaves_are_below c t split) ∙ (sym (ap (λ (ds : List Cell). find (is_sought sought rank) (flat_map f ds)) all) ∙ none))

@@ -1,5 +1,5 @@
 -- What is kept of the parts of a tree adds up.
-use Rattle.std.proofs.Common.{◌≡◌, ℕ, ◌+◌, ◌<◌, ◌≤◌, List, [], ◌∷◌, ◌++◌, length, max, Bool, true, false, cond, filter, Contains, get_or, take, map, append_assoc, sym, refl, ap, ◌∙◌, subst, arith}
+use Rattle.std.proofs.Common.{◌≡◌, ℕ, ◌+◌, ◌<◌, ◌≤◌, List, [], ◌∷◌, ◌++◌, length, max, true, false, cond, filter, Contains, get_or, take, map, append_assoc, sym, refl, ap, ◌∙◌, subst, arith}
 use Rattle.std.specs.List.{flat_map}
 use Rattle.std.proofs.lemmas.Bool.Decides.{nat_tests}
 use Rattle.std.proofs.lemmas.List.{append-nil, take_all, take_more}
@@ -10,19 +10,13 @@ use Rattle.cell_split.specs.declared.verdict.Leaf.{Leaf}
 use Rattle.cell_split.specs.Verdicts.{is_split, is_refuted}
 use Rattle.cell_split.specs.Judges.{Content, IsTask}
 use Rattle.cell_split.specs.Split.{children_of}
-use Rattle.cell_split.specs.Tree.{task_of, child_tasks, leaf_of, leaves}
+use Rattle.cell_split.specs.Tree.{task_of, leaf_of, leaves}
 use Rattle.cell_split.specs.Entries.{last_word, refuted_word}
 use Rattle.cell_split.proofs.Every.{Every}
-use Rattle.cell_split.proofs.TreeLemmas.{leaves-step}
+use Rattle.cell_split.proofs.TreeLemmas.{leaves_of_leaf, leaves_of_split}
 use Rattle.cell_split.proofs.LeafLemmas.{IsUnder, leaves_under}
 use Rattle.steal_pool.specs.Harvests.{is_above}
 use Rattle.steal_pool.specs.Collected.{Collects}
-
-leaves_of_split : (c : Content) (t : Task) → is_split (c.verdict t) ≡ true → leaves c t ≡ flat_map (leaves c) (child_tasks t)
-leaves_of_split c t split = leaves-step c t ∙ ap (λ (b : Bool). cond b (flat_map (leaves c) (child_tasks t)) (leaf_of c t ∷ [])) split
-
-leaves_of_leaf : (c : Content) (t : Task) → is_split (c.verdict t) ≡ false → leaves c t ≡ leaf_of c t ∷ []
-leaves_of_leaf c t leaf = leaves-step c t ∙ ap (λ (b : Bool). cond b (flat_map (leaves c) (child_tasks t)) (leaf_of c t ∷ [])) leaf
 
 pub refuted_word-append : (xs ys : List Leaf) → refuted_word (xs ++ ys) ≡ max (refuted_word xs) (refuted_word ys)
 refuted_word-append [] ys = omega arith
