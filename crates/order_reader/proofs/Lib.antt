@@ -2,6 +2,7 @@ pub mod DateLemmas
 pub mod DateTexts
 pub mod EachLemmas
 pub mod GeometryLemmas
+pub mod GivenSteps
 pub mod LineAgain
 pub mod LineLaws
 pub mod LineLemmas

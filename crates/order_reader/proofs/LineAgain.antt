@@ -1,12 +1,12 @@
 -- A canonical line's tree is read as the order that it was written from.
-use Rattle.std.proofs.Common.{◌≡◌, ◌∙◌, ap, refl, sym, subst, ℕ, ◌==◌, ◌≤◌, ℤ, pos, neg_ℤ, ◌+ℤ◌, ◌≤ℤ◌, Bool, true, false, cond, ◌&&◌, List, [], ◌∷◌, map, Option, Some, None, option_map, option_and_then, Result, Ok, Err, All, arith}
+use Rattle.std.proofs.Common.{◌≡◌, ◌∙◌, ap, refl, sym, ℕ, ◌==◌, ℤ, pos, Bool, true, false, List, [], ◌∷◌, map, Option, Some, None, Result, Ok, All, arith}
 use Rattle.std.specs.List.{AllByRecursion}
 use Rattle.std.proofs.lemmas.Bool.Decides.{nat_tests}
 use Rattle.std.proofs.lemmas.Int.{ints}
 use Rattle.std.proofs.lemmas.List.Elements.{recursion_from_All}
 use Rattle.exact_json.specs.Tree.{Tree, Entry, text, list_of}
 use Rattle.method_table.specs.Method.{asr_word, method_word}
-use Rattle.order_reader.proofs.LineTree.{date_tree, district_tree, fields_by, is_first, line_tree, number_tree, polygon_tree, position_tree, range_tree, ring_tree, tree_by, zone_tree}
+use Rattle.order_reader.proofs.LineTree.{date_tree, district_tree, fields_by, is_first, line_tree, number_tree, polygon_tree, position_tree, ring_tree, zone_tree}
 use Rattle.order_reader.proofs.LookupLemmas.{entries_in_before, items_in_before}
 use Rattle.order_reader.proofs.MembersAgain.{asr_again, days_again, from_again, height_again, late_again, method_again, offsets_again, version_again, zone_again}
 use Rattle.order_reader.proofs.NumberLemmas.{and_parts, whole_of_decimal}
@@ -19,7 +19,7 @@ use Rattle.order_reader.specs.Late.{is_empty}
 use Rattle.order_reader.specs.LineReading.{line_district, line_extras_of, line_order_in, line_order_of, second_extras_of, version_in}
 use Rattle.order_reader.specs.Lookup.{values_named}
 use Rattle.order_reader.specs.Offsets.{first_day, is_day, last_day}
-use Rattle.order_reader.specs.Reading.{Basis, Extras, asked_by, basis_of, district_of, needed}
+use Rattle.order_reader.specs.Reading.{Basis, Extras, basis_of, needed}
 use Rattle.order_reader.specs.Rule.{IsOrder}
 use Rattle.order_reader.specs.declared.fault.Member.TheVariants as members
 use Rattle.order_reader.specs.declared.fault.OrderFault.{OrderFault}

@@ -1,32 +1,27 @@
 -- The values of a canonical line's members are read as what they were written from.
-use Rattle.std.proofs.Common.{◌≡◌, ◌∙◌, ap, refl, sym, subst, ℕ, zero, suc, ◌+◌, ◌^◌, ◌≤◌, ℤ, pos, negsuc, neg_ℤ, ◌+ℤ◌, ◌≤ℤ◌, Bool, true, false, cond, ◌&&◌, List, [], ◌∷◌, map, Option, Some, None, option_map, option_and_then, Result, Ok, Err, arith}
+use Rattle.std.proofs.Common.{◌≡◌, ◌∙◌, ap, refl, sym, subst, ℕ, zero, suc, ◌^◌, ◌≤◌, ℤ, pos, neg_ℤ, ◌+ℤ◌, ◌≤ℤ◌, true, cond, ◌&&◌, List, [], ◌∷◌, map, Some, None, option_map, option_and_then, Ok, arith}
 use Rattle.std.specs.Prelude.{int_le, length, nat_le, ◌||◌, unsigned_abs}
 use Rattle.std.specs.List.{list_all}
-use Rattle.std.specs.Option.{ok_or}
 use Rattle.std.proofs.lemmas.Int.{ints}
 use Rattle.std.proofs.lemmas.Option.{cond_some, option_and_then_some}
-use Rattle.exact_json.specs.Micro.{whole_of}
-use Rattle.exact_json.specs.Tree.{Tree, text, list_of}
+use Rattle.exact_json.specs.Tree.{text, list_of}
 use Rattle.method_table.specs.Method.{asr_word, method_word}
 use Rattle.method_table.specs.declared.method.Asr.{Asr}
 use Rattle.method_table.specs.declared.method.Asr.TheVariants.{Standard, Hanafi}
 use Rattle.method_table.specs.declared.method.Method.{Method}
 use Rattle.method_table.specs.declared.method.Method.TheVariants.{Mwl, Isna, Egypt, Karachi, Makkah, Tehran, Jafari}
-use Rattle.order_reader.proofs.DateTexts.{day_bounds, day_read, day_text_read, ymd_of_day}
+use Rattle.order_reader.proofs.DateTexts.{day_read, day_text_read, ymd_of_day}
 use Rattle.order_reader.proofs.LineTree.{date_tree, number_tree, range_tree, zone_tree}
 use Rattle.order_reader.proofs.LookupLemmas.{items_in_before}
 use Rattle.order_reader.proofs.NumberLemmas.{and_parts, whole_decimal, whole_of_decimal}
 use Rattle.order_reader.proofs.OffsetLemmas.{offset_in_range}
-use Rattle.order_reader.specs.Dates.{day_of, ymd_in}
 use Rattle.order_reader.specs.Each.{each_of}
 use Rattle.order_reader.specs.Late.{is_empty, is_makkah, is_range, may_be_late}
 use Rattle.order_reader.specs.LineReading.{version_in}
-use Rattle.order_reader.specs.Lookup.{list_in, text_in}
-use Rattle.order_reader.specs.Members.{asr_in, days_in, days_of, from_in, height_in, late_in, method_in, offsets_in, pair_in, range_of, whole_within, zone_in}
-use Rattle.order_reader.specs.Offsets.{IsOffset, days_from, first_day, is_day, is_zone, last_day, offsets_of}
+use Rattle.order_reader.specs.Members.{asr_in, days_in, from_in, height_in, late_in, method_in, offsets_in, pair_in, range_of, whole_within, zone_in}
+use Rattle.order_reader.specs.Offsets.{IsOffset, days_from, is_day, is_zone, last_day, offsets_of}
 use Rattle.order_reader.specs.declared.date.Ymd.{Ymd}
 use Rattle.region.proofs.Truth.{le_true}
-use Rattle.year_table.specs.Dates.{date_text}
 use Rattle.year_table.specs.Zones.{day_offset}
 use Rattle.year_table.specs.declared.zone.Zone.{Zone}
 use Rattle.year_table.specs.declared.zone.Zone.TheVariants.{Fixed, Rule}

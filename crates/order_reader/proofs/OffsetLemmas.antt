@@ -1,14 +1,13 @@
 -- The offsets of days one after another.
-use Rattle.std.proofs.Common.{◌≡◌, ◌∙◌, ap, refl, sym, ℕ, zero, suc, ◌+◌, ◌-◌, ◌<◌, ℤ, pos, negsuc, neg_ℤ, ◌+ℤ◌, ◌≤ℤ◌, ◌*ℤ◌, Bool, true, false, cond, ◌&&◌, List, [], ◌∷◌, ◌++◌, drop, length, Option, Some, None, arith, add-one, subst, to_z, of_z, w32, FitsSigned, ◌≤◌}
-use Rattle.std.specs.Prelude.{All, int_le, int_div, option_map, option_and_then, unsigned_abs}
-use Rattle.std.proofs.lemmas.Bool.Decides.{nat_tests}
+use Rattle.std.proofs.Common.{◌≡◌, ◌∙◌, ap, refl, sym, ℕ, zero, suc, ◌+◌, ◌<◌, ℤ, pos, negsuc, neg_ℤ, ◌+ℤ◌, ◌≤ℤ◌, Bool, true, false, cond, ◌&&◌, List, [], ◌∷◌, ◌++◌, drop, length, Option, Some, None, arith, add-one, subst, to_z, of_z, w32, FitsSigned, ◌≤◌}
+use Rattle.std.specs.Prelude.{All, int_le, int_div, option_map, option_and_then}
 use Rattle.std.proofs.lemmas.Int.{ints, to_z-of_z}
 use Rattle.std.proofs.lemmas.List.Elements.{All-nil, All-cons}
 use Rattle.std.proofs.lemmas.Option.{cond_some, option_and_then_some}
 use Rattle.order_reader.proofs.EachLemmas.{each_end, each_more, each_none, with_front}
 use Rattle.order_reader.proofs.SignedLemmas.{between}
 use Rattle.order_reader.specs.Each.{each_of}
-use Rattle.order_reader.specs.Offsets.{IsOffset, days_from, offsets_of}
+use Rattle.order_reader.specs.Offsets.{IsOffset, days_from}
 use Rattle.year_table.specs.Rules.{in_minutes, noon_seconds}
 use Rattle.jiff_tz.specs.PosixReader.{read_whole}
 use Rattle.year_table.specs.Zones.{day_offset}

@@ -1,5 +1,5 @@
 -- What is read as an order keeps the rule of every order.
-use Rattle.std.proofs.Common.{◌≡◌, ◌∙◌, ap, refl, sym, subst, ℕ, ◌≤◌, ℤ, pos, neg_ℤ, ◌+ℤ◌, ◌≤ℤ◌, Bool, true, false, cond, ◌&&◌, List, [], Option, Some, None, option_map, option_and_then, Result, Ok, Err, arith}
+use Rattle.std.proofs.Common.{◌≡◌, refl, sym, subst, ℕ, ◌≤◌, ℤ, pos, neg_ℤ, ◌+ℤ◌, ◌≤ℤ◌, Bool, true, false, cond, ◌&&◌, List, [], Option, Some, None, option_map, option_and_then, Result, Ok, Err, arith}
 use Rattle.std.specs.Prelude.{bytes_eq, int_le, nat_le, unsigned_abs}
 use Rattle.std.specs.Option.{ok_or}
 use Rattle.std.proofs.lemmas.Int.{ints}
@@ -11,6 +11,7 @@ use Rattle.exact_json.specs.declared.fault.JsonFault.{JsonFault}
 use Rattle.method_table.specs.declared.method.Asr.{Asr}
 use Rattle.method_table.specs.declared.method.Method.{Method}
 use Rattle.order_reader.proofs.DateTexts.{day_bounds}
+use Rattle.order_reader.proofs.GivenSteps.{gave}
 use Rattle.order_reader.proofs.SignedLemmas.{between, le_from_test}
 use Rattle.order_reader.specs.Asked.{Asked}
 use Rattle.order_reader.specs.Dates.{civil_day, day_of, unless_far, ymd_in}
@@ -20,8 +21,8 @@ use Rattle.order_reader.specs.Gives.{◌>>=◌}
 use Rattle.order_reader.specs.Late.{may_be_late}
 use Rattle.order_reader.specs.LineReading.{first_extras, line_district, line_extras_of, line_order_in, line_order_of, second_extras_of, version_in}
 use Rattle.order_reader.specs.Lookup.{list_in, number_in, object_in, text_in}
-use Rattle.order_reader.specs.Members.{asr_in, days_in, days_of, from_in, height_in, late_in, late_of, method_in, offsets_in, pair_in, range_of, sun_in, sun_of, whole_within, zone_by, zone_in, zone_of_number, zone_of_text}
-use Rattle.order_reader.specs.Offsets.{first_day, is_day, is_zone, last_day, offsets_of}
+use Rattle.order_reader.specs.Members.{asr_in, days_in, days_of, from_in, height_in, late_in, late_of, method_in, offsets_in, pair_in, range_of, sun_in, sun_of, whole_within, zone_by, zone_in}
+use Rattle.order_reader.specs.Offsets.{is_day, is_zone, last_day, offsets_of}
 use Rattle.order_reader.specs.Reading as reading
 use Rattle.order_reader.specs.Reading.{Basis, Extras, asked_by, basis_of, district_in, district_of, extras_of, height_of, needed, night_of, optional, or_absent, order_in, order_of, unless_refused}
 use Rattle.order_reader.specs.Reads.{OrdersKeepTheRule, answer_by}
@@ -41,10 +42,6 @@ use Rattle.year_table.specs.declared.zone.Zone.{Zone}
 use Rattle.year_table.specs.declared.zone.Zone.TheVariants.{Fixed, Rule}
 
 -- Steps that succeed.
-
-then_ok : {A B : Type 0} (r : Result A OrderFault) (f : A → Result B OrderFault) (y : B) → (r >>= f) ≡ Ok y → (x : A) × (r ≡ Ok x) × (f x ≡ Ok y)
-then_ok (Ok x) f y e = (x, refl, e)
-then_ok (Err fault) f y e = absurd cc
 
 or_ok : {A : Type 0} (o : Option A) (fault : OrderFault) (x : A) → ok_or o fault ≡ Ok x → o ≡ Some x
 or_ok (Some y) fault x e = cc
@@ -166,9 +163,9 @@ unless_refused_ok found polygons (Some fault) is e = absurd cc
 
 sound_by : {A : Type 0} (o : Option A) (fault : OrderFault) (read : A → Option (List Polygon)) (polygons : List Polygon) → (ok_or o fault >>= λ x. (ok_or (read x) Geometry >>= district_of)) ≡ Ok polygons → first_fault polygons ≡ None
 sound_by o fault read polygons e =
-    let x = then_ok (ok_or o fault) (λ y. ok_or (read y) Geometry >>= district_of) polygons e in
-    let found = then_ok (ok_or (read x.0) Geometry) district_of polygons x.2 in
-    unless_refused_ok found.0 polygons (first_fault found.0) refl found.2
+    let x = gave (ok_or o fault) (λ y. ok_or (read y) Geometry >>= district_of) polygons e in
+    let found = gave (ok_or (read x.value) Geometry) district_of polygons x.rest in
+    unless_refused_ok found.value polygons (first_fault found.value) refl found.rest
 
 district_kept : (t : Tree) (polygons : List Polygon) → district_in t ≡ Ok polygons → first_fault polygons ≡ None
 unfolding district_in
@@ -208,16 +205,16 @@ module _ (from : Result Tree OrderFault) (days : Result Tree OrderFault) (method
 
   basis_by : (b : Basis) → ((from >>= from_in) >>= with_from) ≡ Ok b → KeepsBasis b
   basis_by b e =
-      let f = then_ok (from >>= from_in) with_from b e in
-      let n = then_ok (days >>= days_in f.0) (with_days f.0) b f.2 in
-      let m = then_ok method (with_method f.0 n.0) b n.2 in
-      let a = then_ok asr (with_asr f.0 n.0 m.0) b m.2 in
-      let z = then_ok (zone >>= zone_in) (with_zone f.0 n.0 m.0 a.0) b a.2 in
-      let o = then_ok (offsets_in f.0 n.0 z.0) (λ o. Ok (record { from_day = f.0; days = n.0; method = m.0; asr = a.0; zone = z.0; offsets = o })) b z.2 in
-      let ft = then_ok from from_in f.0 f.1 in
-      let nt = then_ok days (days_in f.0) n.0 n.1 in
-      let zt = then_ok zone zone_in z.0 z.1 in
-      basis_from f.0 n.0 m.0 a.0 z.0 o.0 b (cc) (from_kept ft.0 f.0 ft.2) (days_kept f.0 nt.0 n.0 nt.2) (zone_kept zt.0 z.0 zt.2) (offsets_kept f.0 n.0 z.0 o.0 o.1)
+      let f = gave (from >>= from_in) with_from b e in
+      let n = gave (days >>= days_in f.value) (with_days f.value) b f.rest in
+      let m = gave method (with_method f.value n.value) b n.rest in
+      let a = gave asr (with_asr f.value n.value m.value) b m.rest in
+      let z = gave (zone >>= zone_in) (with_zone f.value n.value m.value a.value) b a.rest in
+      let o = gave (offsets_in f.value n.value z.value) (λ o. Ok (record { from_day = f.value; days = n.value; method = m.value; asr = a.value; zone = z.value; offsets = o })) b z.rest in
+      let ft = gave from from_in f.value f.first in
+      let nt = gave days (days_in f.value) n.value n.first in
+      let zt = gave zone zone_in z.value z.first in
+      basis_from f.value n.value m.value a.value z.value o.value b (cc) (from_kept ft.value f.value ft.rest) (days_kept f.value nt.value n.value nt.rest) (zone_kept zt.value z.value zt.rest) (offsets_kept f.value n.value z.value o.value o.first)
 
 basis_kept : (es : List Entry) (b : Basis) → basis_of es ≡ Ok b → KeepsBasis b
 unfolding basis_of
@@ -242,26 +239,26 @@ module _ (method : Method) (es : List Entry) where
   extras_kept : (x : Extras) → extras_of method es ≡ Ok x → KeepsExtras method x
   unfolding extras_of
   extras_kept x e =
-      let h = then_ok (height_of es) with_height x e in
-      let l = then_ok (reading.late_of method es) (with_late h.0) x h.2 in
-      let s = then_ok (reading.sun_of es) (with_sun h.0 l.0) x l.2 in
-      let n = then_ok (night_of es) (λ _. Ok (record { height = h.0; late = l.0; sun = s.0 })) x s.2 in
-      let same : record { height = h.0; late = l.0; sun = s.0 } ≡ x = cc in
+      let h = gave (height_of es) with_height x e in
+      let l = gave (reading.late_of method es) (with_late h.value) x h.rest in
+      let s = gave (reading.sun_of es) (with_sun h.value l.value) x l.rest in
+      let n = gave (night_of es) (λ _. Ok (record { height = h.value; late = l.value; sun = s.value })) x s.rest in
+      let same : record { height = h.value; late = l.value; sun = s.value } ≡ x = cc in
       subst (KeepsExtras method) same (record {
-        low = optional_ok 0 height_in (λ k. k ≤ 9000) (omega arith) height_kept (optional members.Height es) h.0 h.1;
-        late = optional_ok [] (late_in method) (λ k. may_be_late method k ≡ true) refl (late_kept method) (optional members.LateIsha es) l.0 l.1;
-        sun = optional_ok Usno sun_in (λ k. k ≡ Usno) refl sun_kept (optional members.Sun es) s.0 s.1;
+        low = optional_ok 0 height_in (λ k. k ≤ 9000) (omega arith) height_kept (optional members.Height es) h.value h.first;
+        late = optional_ok [] (late_in method) (λ k. may_be_late method k ≡ true) refl (late_kept method) (optional members.LateIsha es) l.value l.first;
+        sun = optional_ok Usno sun_in (λ k. k ≡ Usno) refl sun_kept (optional members.Sun es) s.value s.first;
       })
 
   second_kept : (x : Extras) → second_extras_of method es ≡ Ok x → KeepsExtras method x
   unfolding second_extras_of
   second_kept x e =
-      let h = then_ok (needed members.Height es >>= height_in) (λ k. (needed members.LateIsha es >>= late_in method) >>= λ l. Ok (record { height = k; late = l; sun = Usno })) x e in
-      let l = then_ok (needed members.LateIsha es >>= late_in method) (λ k. Ok (record { height = h.0; late = k; sun = Usno })) x h.2 in
-      let ht = then_ok (needed members.Height es) height_in h.0 h.1 in
-      let lt = then_ok (needed members.LateIsha es) (late_in method) l.0 l.1 in
-      let same : record { height = h.0; late = l.0; sun = Usno } ≡ x = cc in
-      subst (KeepsExtras method) same (record { low = height_kept ht.0 h.0 ht.2; late = late_kept method lt.0 l.0 lt.2; sun = refl })
+      let h = gave (needed members.Height es >>= height_in) (λ k. (needed members.LateIsha es >>= late_in method) >>= λ l. Ok (record { height = k; late = l; sun = Usno })) x e in
+      let l = gave (needed members.LateIsha es >>= late_in method) (λ k. Ok (record { height = h.value; late = k; sun = Usno })) x h.rest in
+      let ht = gave (needed members.Height es) height_in h.value h.first in
+      let lt = gave (needed members.LateIsha es) (late_in method) l.value l.first in
+      let same : record { height = h.value; late = l.value; sun = Usno } ≡ x = cc in
+      subst (KeepsExtras method) same (record { low = height_kept ht.value h.value ht.rest; late = late_kept method lt.value l.value lt.rest; sun = refl })
 
   line_extras_by : (b : Bool) (x : Extras) → cond b (second_extras_of method es) (Ok first_extras) ≡ Ok x → KeepsExtras method x
   line_extras_by true x e = second_kept x e
@@ -287,35 +284,38 @@ parts_kept b x polygons o basis extras sound same =
 members_kept : (es : List Entry) (o : Asked) → order_of es ≡ Ok o → IsOrder o
 unfolding order_of
 members_kept es o e =
-    let b = then_ok (basis_of es) (λ b. extras_of b.method es >>= λ x. (needed members.District es >>= district_in) >>= λ p. Ok (asked_by b x p)) o e in
-    let x = then_ok (extras_of b.0.method es) (λ x. (needed members.District es >>= district_in) >>= λ p. Ok (asked_by b.0 x p)) o b.2 in
-    let p = then_ok (needed members.District es >>= district_in) (λ p. Ok (asked_by b.0 x.0 p)) o x.2 in
-    let t = then_ok (needed members.District es) district_in p.0 p.1 in
-    parts_kept b.0 x.0 p.0 o (basis_kept es b.0 b.1) (extras_kept b.0.method es x.0 x.1) (district_kept t.0 p.0 t.2) cc
+    let b = gave (basis_of es) (λ b. extras_of b.method es >>= λ x. (needed members.District es >>= district_in) >>= λ p. Ok (asked_by b x p)) o e in
+    let x = gave (extras_of b.value.method es) (λ x. (needed members.District es >>= district_in) >>= λ p. Ok (asked_by b.value x p)) o b.rest in
+    let p = gave (needed members.District es >>= district_in) (λ p. Ok (asked_by b.value x.value p)) o x.rest in
+    let t = gave (needed members.District es) district_in p.value p.first in
+    parts_kept b.value x.value p.value o (basis_kept es b.value b.first) (extras_kept b.value.method es x.value x.first) (district_kept t.value p.value t.rest) cc
 
 line_members_kept : (es : List Entry) (o : Asked) → line_order_of es ≡ Ok o → IsOrder o
 unfolding line_order_of
 line_members_kept es o e =
-    let v = then_ok (needed members.Version es >>= version_in) (λ v. basis_of es >>= λ b. line_extras_of v b.method es >>= λ x. (needed members.District es >>= line_district) >>= λ p. Ok (asked_by b x p)) o e in
-    let b = then_ok (basis_of es) (λ b. line_extras_of v.0 b.method es >>= λ x. (needed members.District es >>= line_district) >>= λ p. Ok (asked_by b x p)) o v.2 in
-    let x = then_ok (line_extras_of v.0 b.0.method es) (λ x. (needed members.District es >>= line_district) >>= λ p. Ok (asked_by b.0 x p)) o b.2 in
-    let p = then_ok (needed members.District es >>= line_district) (λ p. Ok (asked_by b.0 x.0 p)) o x.2 in
-    let t = then_ok (needed members.District es) line_district p.0 p.1 in
-    parts_kept b.0 x.0 p.0 o (basis_kept es b.0 b.1) (line_extras_by b.0.method es (nat_le 2 v.0) x.0 x.1) (line_district_kept t.0 p.0 t.2) cc
+    let v = gave (needed members.Version es >>= version_in) (λ v. basis_of es >>= λ b. line_extras_of v b.method es >>= λ x. (needed members.District es >>= line_district) >>= λ p. Ok (asked_by b x p)) o e in
+    let b = gave (basis_of es) (λ b. line_extras_of v.value b.method es >>= λ x. (needed members.District es >>= line_district) >>= λ p. Ok (asked_by b x p)) o v.rest in
+    let x = gave (line_extras_of v.value b.value.method es) (λ x. (needed members.District es >>= line_district) >>= λ p. Ok (asked_by b.value x p)) o b.rest in
+    let p = gave (needed members.District es >>= line_district) (λ p. Ok (asked_by b.value x.value p)) o x.rest in
+    let t = gave (needed members.District es) line_district p.value p.first in
+    parts_kept b.value x.value p.value o (basis_kept es b.value b.first) (line_extras_by b.value.method es (nat_le 2 v.value) x.value x.first) (line_district_kept t.value p.value t.rest) cc
 
 -- what is read as an order is one
 pub order_kept : (t : Tree) (o : Asked) → order_in t ≡ Ok o → IsOrder o
 unfolding order_in
-order_kept t o e = (let es = then_ok (ok_or (object_in t) (Kind members.Order)) order_of o e in members_kept es.0 o es.2)
+order_kept t o e = (let es = gave (ok_or (object_in t) (Kind members.Order)) order_of o e in members_kept es.value o es.rest)
 
 -- as a canonical line too
 pub line_kept : (t : Tree) (o : Asked) → line_order_in t ≡ Ok o → IsOrder o
 unfolding line_order_in
-line_kept t o e = (let es = then_ok (ok_or (object_in t) (Kind members.Order)) line_order_of o e in line_members_kept es.0 o es.2)
+line_kept t o e = (let es = gave (ok_or (object_in t) (Kind members.Order)) line_order_of o e in line_members_kept es.value o es.rest)
 
-kept_by : (r : Result Tree JsonFault) (o : Asked) → Ok o ≡ answer_by order_in r → IsOrder o
-kept_by (Ok t) o e = order_kept t o (sym e)
-kept_by (Err fault) o e = absurd cc
+kept_by : (reading : Tree → Result Asked OrderFault) → ((t : Tree) (o : Asked) → reading t ≡ Ok o → IsOrder o) → (r : Result Tree JsonFault) (o : Asked) → Ok o ≡ answer_by reading r → IsOrder o
+kept_by reading kept (Ok t) o e = kept t o (sym e)
+kept_by reading kept (Err fault) o e = absurd cc
 
 pub orders_keep_the_rule : OrdersKeepTheRule
-orders_keep_the_rule bytes o (r, is, e) = kept_by r o e
+orders_keep_the_rule = record {
+  of_an_order = λ bytes o read. kept_by order_in order_kept read.0 o read.2;
+  of_a_line = λ bytes o read. kept_by line_order_in line_kept read.0 o read.2;
+}

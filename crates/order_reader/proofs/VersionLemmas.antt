@@ -1,9 +1,10 @@
 -- The version of an order's line is the least.
-use Rattle.std.proofs.Common.{◌≡◌, ℕ, ◌≤◌, ◌==◌, ◌&&◌, Bool, true, false, cond, nat_le, ℤ, pos, int_le, unsigned_abs, List, Option, Some, None, option_map, option_and_then, Result, Ok, Err, refl, sym, subst, ◌∙◌, arith}
+use Rattle.std.proofs.Common.{◌≡◌, ℕ, ◌≤◌, ◌==◌, ◌&&◌, Bool, true, false, cond, nat_le, ℤ, pos, int_le, unsigned_abs, List, Option, Some, None, option_map, option_and_then, Result, Ok, refl, sym, subst, ◌∙◌, arith}
 use Rattle.std.proofs.lemmas.Bool.Decides.{nat_tests}
 use Rattle.std.proofs.lemmas.Int.{ints}
 use Rattle.std.specs.Option.{ok_or}
 use Rattle.exact_json.specs.Tree.{Tree, Entry}
+use Rattle.order_reader.proofs.GivenSteps.{gave}
 use Rattle.order_reader.proofs.NumberLemmas.{and_parts}
 use Rattle.order_reader.specs.Asked.{Asked}
 use Rattle.exact_json.specs.Micro.{whole_of}
@@ -20,19 +21,6 @@ use Rattle.order_reader.specs.declared.fault.Member.TheVariants as members
 use Rattle.order_reader.specs.declared.fault.OrderFault.{OrderFault}
 use Rattle.order_reader.specs.declared.fault.OrderFault.TheVariants.{Kind, Range}
 use Rattle.region.specs.Rings.{Polygon}
-
--- what comes first gave a value
-pub record Gave {A B : Type 0} (r : Result A OrderFault) (f : A → Result B OrderFault) (y : B) : Type 0 where
-  pub value : A
-  pub first : r ≡ Ok value
-  pub rest : f value ≡ Ok y
-
-pub gave : {A B : Type 0} (r : Result A OrderFault) (f : A → Result B OrderFault) (y : B) → (r >>= f) ≡ Ok y → Gave r f y
-gave (Ok x) f y h = record { value = x; first = refl; rest = h }
-gave (Err e) f y h = absurd (apart e y h)
-  where
-    apart : {B : Type 0} (e : OrderFault) (y : B) → ◌≡◌ {A = Result B OrderFault} (Err e) (Ok y) → ⊥
-    apart e y h = cc
 
 ok_same : {A : Type 0} (a b : A) → ◌≡◌ {A = Result A OrderFault} (Ok a) (Ok b) → a ≡ b
 ok_same a b h = cc

@@ -1,5 +1,5 @@
 -- Values of each item of a list.
-use Rattle.std.specs.Prelude.{List, [], ◌∷◌, Option, Some, None, option_map, option_and_then}
+use Rattle.std.specs.Prelude.{List, [], ◌∷◌, Option, Some, option_map, option_and_then}
 
 -- what each item gives, if each gives something
 unfoldable pub each_of : {A B : Type 0} → (A → Option B) → List A → Option (List B)

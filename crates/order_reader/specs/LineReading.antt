@@ -1,6 +1,6 @@
 -- The order of a canonical line's tree, or its first refusal: its version first, and then all members of that version, as those of
 -- an order are read. Other members are passed over.
-use Rattle.std.specs.Prelude.{ℕ, nat_le, ℤ, pos, unsigned_abs, if◌then◌else◌, List, [], option_map, Result, Ok}
+use Rattle.std.specs.Prelude.{ℕ, nat_le, pos, unsigned_abs, if◌then◌else◌, List, [], option_map, Result, Ok}
 use Rattle.std.specs.Option.{ok_or}
 use Rattle.exact_json.specs.Tree.{Tree, Entry}
 use Rattle.method_table.specs.declared.method.Method.{Method}

@@ -1,5 +1,5 @@
 -- What each member of an order says, by the plain tree of its value, or why it is refused: first its kind, and then its range.
-use Rattle.std.specs.Prelude.{ℕ, ◌+◌, nat_le, ℤ, pos, neg_ℤ, ◌+ℤ◌, int_le, unsigned_abs, Bool, ◌&&◌, if◌then◌else◌, List, [], ◌∷◌, Option, Some, None, option_map, option_and_then, Result, Ok, Err, find, codes, bytes_eq}
+use Rattle.std.specs.Prelude.{ℕ, ℤ, pos, neg_ℤ, ◌+ℤ◌, int_le, unsigned_abs, ◌&&◌, if◌then◌else◌, List, [], ◌∷◌, Option, Some, None, option_map, option_and_then, Result, Ok, Err, find, bytes_eq}
 use Rattle.std.specs.Option.{ok_or, option_zip}
 use Rattle.exact_json.specs.Tree.{Tree}
 use Rattle.exact_json.specs.declared.decimal.Decimal.{Decimal}
@@ -13,7 +13,7 @@ use Rattle.order_reader.specs.Each.{each_of}
 use Rattle.order_reader.specs.Gives.{◌>>=◌}
 use Rattle.order_reader.specs.Late.{may_be_late}
 use Rattle.order_reader.specs.Lookup.{list_in, number_in, text_in}
-use Rattle.order_reader.specs.Offsets.{first_day, last_day, offsets_of}
+use Rattle.order_reader.specs.Offsets.{last_day, offsets_of}
 use Rattle.exact_json.specs.Micro.{whole_of}
 use Rattle.order_reader.specs.declared.fault.Member.{Member}
 use Rattle.order_reader.specs.declared.fault.Member.TheVariants.{From, Days, Method as MethodName, Asr as AsrName, Zone as ZoneName, Height, LateIsha, Sun, Night}
@@ -22,7 +22,7 @@ use Rattle.order_reader.specs.declared.fault.OrderFault.TheVariants.{Kind, Range
 use Rattle.year_table.specs.Lines.{sun_word}
 use Rattle.year_table.specs.Rules.{is_rule}
 use Rattle.year_table.specs.declared.head.SunChoice.{SunChoice}
-use Rattle.year_table.specs.declared.head.SunChoice.TheVariants.{Meeus, Usno}
+use Rattle.year_table.specs.declared.head.SunChoice.TheVariants.{Usno}
 use Rattle.year_table.specs.declared.zone.Zone.{Zone}
 use Rattle.year_table.specs.declared.zone.Zone.TheVariants.{Fixed, Rule}
 

@@ -43,6 +43,7 @@ LineReadingsAgree = (bytes : List ℕ) (x y : Result Asked OrderFault) → Reads
 abbrev pub EveryTextIsReadOrRefused : Type 0
 EveryTextIsReadOrRefused = (bytes : List ℕ) → (x : Result Asked OrderFault) × ReadsOrder bytes x
 
--- what is read as an order keeps the rule of every order
-abbrev pub OrdersKeepTheRule : Type 0
-OrdersKeepTheRule = (bytes : List ℕ) (o : Asked) → ReadsOrder bytes (Ok o) → IsOrder o
+-- what is read keeps the rule of every order
+pub record OrdersKeepTheRule : Type 0 where
+  pub of_an_order : (bytes : List ℕ) (o : Asked) → ReadsOrder bytes (Ok o) → IsOrder o
+  pub of_a_line : (bytes : List ℕ) (o : Asked) → ReadsLine bytes (Ok o) → IsOrder o

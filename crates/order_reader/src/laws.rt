@@ -16,7 +16,7 @@ pub fn every_text_is_read_or_refused()
     ensures { EveryTextIsReadOrRefused }
 {}
 
-/// What is read as an order keeps the rule of every order.
+/// What is read as an order, or as a canonical line, keeps the rule of every order.
 pub fn orders_keep_the_rule()
     ensures { OrdersKeepTheRule }
 {}
