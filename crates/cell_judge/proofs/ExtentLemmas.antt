@@ -35,7 +35,8 @@ least_between low high (z ∷ zs) g h all =
     let f = fold_min low z high zs all.0 all.2 in
     record { not_low = f.0; not_high = omega (arith, ints, f.1, all.1) }
 
-xs_near : (ps : List Position) → list_any is_far ps ≡ false → AllIn (neg_ℤ (pos 360_000_000)) (pos 360_000_000) (map (λ p. p.0) ps)
+-- the longitudes of a sound district's positions, and their latitudes, are near
+pub xs_near : (ps : List Position) → list_any is_far ps ≡ false → AllIn (neg_ℤ (pos 360_000_000)) (pos 360_000_000) (map (λ p. p.0) ps)
 xs_near [] h = tt
 xs_near (p ∷ ps) h =
     let k = neither (is_far p) (list_any is_far ps) h in

@@ -97,34 +97,40 @@ fn one_place_is_judged_as_its_table_says(rt: HostRuntime) -> Result<(), Fail> {
         (5, 283),
         (6, 438),
     ] {
-        let place = Cell {
-            size: 4,
-            first: rank,
-            last: rank,
-            ..root
-        };
-        let before = Cell {
-            first: rank - 1,
-            last: rank - 1,
-            ..place
-        };
         assert_eq!(rt;
             told(judged(&rt, &sky, problem, root)).0,
             "split",
             "{problem}"
         );
-        assert_eq!(rt;
-            judged(&rt, &sky, problem, place),
-            Verdict::Proved,
-            "{problem}"
-        );
-        assert_eq!(rt;
-            told(judged(&rt, &sky, problem, before)),
-            ("refuted", (12_800_000, 0, 1)),
-            "{problem}"
-        );
+        holds_from(&rt, &sky, problem, rank);
     }
     Ok(())
+}
+
+// At this rank the place's own cell is proved, and at the one before it is refuted.
+fn holds_from(rt: &impl Abort, sky: &Sky, problem: u32, rank: u32) {
+    assert!(rt; 1 <= rank);
+    let place = Cell {
+        size: 4,
+        first: rank,
+        last: rank,
+        ..sky.root()
+    };
+    let before = Cell {
+        first: rank - 1,
+        last: rank - 1,
+        ..place
+    };
+    assert_eq!(rt;
+        judged(rt, sky, problem, place),
+        Verdict::Proved,
+        "{problem}"
+    );
+    assert_eq!(rt;
+        told(judged(rt, sky, problem, before)),
+        ("refuted", (12_800_000, 0, 1)),
+        "{problem}"
+    );
 }
 
 // A problem, a cell by its corner, size and ranks, and the verdict with its point.

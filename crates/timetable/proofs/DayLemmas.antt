@@ -1,8 +1,8 @@
 -- The days of an order, and that each entry of its table is right.
-use Rattle.std.proofs.Common.{◌≡◌, ℕ, suc, ◌+◌, ◌<◌, ◌≤◌, false, List, [], ◌∷◌, ◌++◌, length, map, drop, get_or, refl, sym, ap, ◌∙◌, append_assoc, arith}
+use Rattle.std.proofs.Common.{◌≡◌, ℕ, suc, ◌+◌, ◌<◌, ◌≤◌, List, [], ◌∷◌, ◌++◌, length, map, drop, get_or, refl, sym, ap, ◌∙◌, append_assoc, arith}
 use Rattle.std.specs.Prelude.{Some, slice_get, ℤ, pos, negsuc, neg_ℤ, ◌+ℤ◌, ◌≤ℤ◌, All, None, fold}
 use Rattle.std.specs.Int.{int_max, int_rem_euclid}
-use Rattle.std.specs.List.{list_any, AllByRecursion as Every}
+use Rattle.std.specs.List.{AllByRecursion as Every}
 use Rattle.std.proofs.lemmas.Int.{ints, clamps}
 use Rattle.std.proofs.lemmas.List.{drop_more, length-map, map-append}
 use Rattle.std.proofs.lemmas.Option.{get_or_from_slice_get}
@@ -12,13 +12,11 @@ use Rattle.std.proofs.lemmas.List.Elements.{All-from_recursion, recursion_from_A
 use Rattle.solar_terms.proofs.SunLaws.{observatory_is_sound}
 use Rattle.method_table.specs.Row.{Row, row_of}
 use Rattle.method_table.specs.Table.{noon_of, rows}
-use Rattle.region.specs.Rings.{Position, Polygon}
-use Rattle.region.specs.Extent.{is_far, longitudes, least, greatest, positions_of}
+use Rattle.region.specs.Rings.{Polygon}
+use Rattle.region.specs.Extent.{longitudes, least, greatest, positions_of}
 use Rattle.region.specs.Faults.{first_fault}
-use Rattle.region.proofs.Along.{near}
 use Rattle.region.proofs.Reach.{AllIn}
 use Rattle.region.proofs.Sound.{sound}
-use Rattle.region.proofs.Truth.{neither}
 use Rattle.cell_split.specs.Cells.{IsRoot}
 use Rattle.cell_judge.specs.DayLaws.{IsDay}
 use Rattle.cell_judge.specs.SkyLaws.{IsRow, scene_at}
@@ -28,7 +26,7 @@ use Rattle.cell_judge.proofs.DayLaws.{days_are_in_limits, days_have_rows}
 use Rattle.cell_judge.specs.Limits.{AreInLimits}
 use Rattle.method_table.specs.declared.problem.Problem.{Problem}
 use Rattle.cell_judge.proofs.EntryLaws.{lies_in_root, one_decided_entry_is_right, true_verdicts_make_right_entries}
-use Rattle.cell_judge.proofs.ExtentLemmas.{IsBetween, west_near, south_near}
+use Rattle.cell_judge.proofs.ExtentLemmas.{IsBetween, west_near, south_near, xs_near}
 use Rattle.cell_judge.proofs.SkyLaws.{skies_tell_the_truth}
 use Rattle.order_reader.specs.Asked.{Asked, asked_of}
 use Rattle.order_reader.specs.Late.{interval_on}
@@ -51,13 +49,6 @@ greatest_between low high [] g h all = record { not_low = g; not_high = h }
 greatest_between low high (z ∷ zs) g h all =
     let f = fold_max low high z zs all.1 all.2 in
     record { not_low = omega (arith, ints, f.0, all.0); not_high = f.1 }
-
-xs_near : (ps : List Position) → list_any is_far ps ≡ false → AllIn (neg_ℤ (pos 360_000_000)) (pos 360_000_000) (map (λ p. p.0) ps)
-xs_near [] h = tt
-xs_near (p ∷ ps) h =
-    let k = neither (is_far p) (list_any is_far ps) h in
-    let n = near p k.0 in
-    (n.0.low, n.0.high, xs_near ps k.1)
 
 pub east_near : (polygons : List Polygon) → first_fault polygons ≡ None →
     IsBetween (neg_ℤ (pos 360_000_000)) (pos 360_000_000) (greatest (longitudes polygons))
