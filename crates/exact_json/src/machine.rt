@@ -1,6 +1,6 @@
 //! The reader, a byte at a time.
 
-ghost use Rattle.std.specs.Prelude.{◌≡◌, ◌<◌, ◌^◌, ℕ, List, [], length, IfOk, IsTrue, map, option_map, string_bytes};
+ghost use Rattle.std.specs.Prelude.{◌≡◌, ◌≢◌, ◌<◌, ◌^◌, ℕ, List, [], Some, length, IfOk, IsTrue, map, option_map, string_bytes};
 ghost use Rattle.exact_json.specs.Ascii as ascii;
 ghost use Rattle.exact_json.specs.Machine as spec;
 ghost use Rattle.exact_json.specs.Seen.{frames_of, state_of, literal_of, seen_with, AfterOutcome, IsReady, Steps};
@@ -296,41 +296,52 @@ fn after_number<'a>(
     requires places { machine.old.numeral.places < 2 ^ 32 }
     ensures { IfOk result (λ r. option_map (seen_with machine.new) r ≡ spec.step_numeral phase machine.old.numeral (frames_of machine.old.frames.items) b) }
 {
-    let is_digit = b.is_ascii_digit();
-    let numeral = &mut machine.numeral;
-    let next = match phase {
-        Phase::AfterMinus if is_digit => {
-            numeral.push_whole(b)?;
-            first_phase(b)
-        }
-        Phase::InWhole if is_digit => {
-            numeral.push_whole(b)?;
-            Phase::InWhole
-        }
-        Phase::AfterPoint | Phase::InFraction if is_digit => {
-            numeral.push_fraction(b)?;
-            Phase::InFraction
-        }
+    if b.is_ascii_digit() && phase != Phase::AfterZero {
+        let next = after_digit(&mut machine.numeral, phase, b)?;
+        return Ok(Some(Next::Number(next)));
+    }
+    match phase {
         Phase::AfterLetter if b == b'+' => {
-            numeral.count();
-            Phase::AfterSign
+            machine.numeral.count();
+            Ok(Some(Next::Number(Phase::AfterSign)))
         }
         Phase::AfterLetter if b == b'-' => {
-            numeral.negate_exponent();
-            Phase::AfterSign
+            machine.numeral.negate_exponent();
+            Ok(Some(Next::Number(Phase::AfterSign)))
         }
-        Phase::AfterLetter | Phase::AfterSign | Phase::InExponent if is_digit => {
+        Phase::AfterMinus | Phase::AfterPoint | Phase::AfterLetter | Phase::AfterSign => Ok(None),
+        Phase::AfterZero | Phase::InWhole => point_or_letter(alloc, machine, b),
+        Phase::InFraction => letter_or_end(alloc, machine, b),
+        Phase::InExponent => end_number(alloc, machine, b),
+    }
+}
+
+/// A digit that goes on with a number.
+fn after_digit(numeral: &mut Numeral, phase: Phase, b: u8) -> Result<Phase, NoMemory>
+    requires digit { IsTrue (ascii.is_digit b) }
+    requires goes_on { phase ≢ spec.after_zero }
+    requires length { numeral.old.length < 2 ^ 32 }
+    requires places { numeral.old.places < 2 ^ 32 }
+    ensures { IfOk result (λ next. (frames : List spec.Frame) → Some (spec.numeral next numeral.new frames) ≡ spec.step_numeral phase numeral.old frames b) }
+{
+    match phase {
+        Phase::AfterMinus => {
+            numeral.push_whole(b)?;
+            Ok(first_phase(b))
+        }
+        Phase::AfterZero | Phase::InWhole => {
+            numeral.push_whole(b)?;
+            Ok(Phase::InWhole)
+        }
+        Phase::AfterPoint | Phase::InFraction => {
+            numeral.push_fraction(b)?;
+            Ok(Phase::InFraction)
+        }
+        Phase::AfterLetter | Phase::AfterSign | Phase::InExponent => {
             numeral.push_exponent(b)?;
-            Phase::InExponent
+            Ok(Phase::InExponent)
         }
-        Phase::AfterMinus | Phase::AfterPoint | Phase::AfterLetter | Phase::AfterSign => {
-            return Ok(None);
-        }
-        Phase::AfterZero | Phase::InWhole => return point_or_letter(alloc, machine, b),
-        Phase::InFraction => return letter_or_end(alloc, machine, b),
-        Phase::InExponent => return end_number(alloc, machine, b),
-    };
-    Ok(Some(Next::Number(next)))
+    }
 }
 
 /// A character has gone on or ended.

@@ -32,43 +32,46 @@ fn expect_line(rt: &(impl Abort + AllocGlobal), order: &str, line: &str) -> Resu
     )
 }
 
+/// What is replaced in the first order and by what, and the same in its line.
+const CHANGES: [(&str, &str, &str, &str); 7] = [
+    (r#""days":1"#, r#""days": 1e0, "x": [null]"#, "", ""),
+    (r#""mwl""#, r#""\u006dw\u006c""#, "", ""),
+    (
+        r#""zone":180"#,
+        r#""zone":-0"#,
+        r#""zone":180"#,
+        r#""zone":0"#,
+    ),
+    (
+        r#""zone":180"#,
+        r#""zone":"CET-1CEST,M3.5.0,M10.5.0/3""#,
+        r#""zone":180"#,
+        r#""zone":"CET-1CEST,M3.5.0,M10.5.0/3""#,
+    ),
+    (
+        r#""zone":180"#,
+        r#""zone":180,"height":0,"late_isha":[],"sun":"usno""#,
+        "",
+        "",
+    ),
+    (
+        r#""zone":180"#,
+        r#""height":100,"zone":180"#,
+        r#"1,"from":"2025-03-01","days":1,"method":"mwl","asr":"standard","zone":180"#,
+        r#"2,"from":"2025-03-01","days":1,"method":"mwl","asr":"standard","zone":180,"height":100,"late_isha":[]"#,
+    ),
+    (
+        r#""mwl""#,
+        r#""makkah","late_isha":[["2025-03-01","2025-03-30"],["2024-03-11","2024-03-11"]]"#,
+        r#"1,"from":"2025-03-01","days":1,"method":"mwl","asr":"standard","zone":180"#,
+        r#"2,"from":"2025-03-01","days":1,"method":"makkah","asr":"standard","zone":180,"height":0,"late_isha":[["2025-03-01","2025-03-30"],["2024-03-11","2024-03-11"]]"#,
+    ),
+];
+
 #[test]
 fn an_order_gets_its_canonical_line(rt: HostRuntime) -> Result<(), Fail> {
     expect_line(&rt, ORDER_A, LINE_A)?;
-    for (old, new, line_old, line_new) in [
-        (r#""days":1"#, r#""days": 1e0, "x": [null]"#, "", ""),
-        (r#""mwl""#, r#""\u006dw\u006c""#, "", ""),
-        (
-            r#""zone":180"#,
-            r#""zone":-0"#,
-            r#""zone":180"#,
-            r#""zone":0"#,
-        ),
-        (
-            r#""zone":180"#,
-            r#""zone":"CET-1CEST,M3.5.0,M10.5.0/3""#,
-            r#""zone":180"#,
-            r#""zone":"CET-1CEST,M3.5.0,M10.5.0/3""#,
-        ),
-        (
-            r#""zone":180"#,
-            r#""zone":180,"height":0,"late_isha":[],"sun":"usno""#,
-            "",
-            "",
-        ),
-        (
-            r#""zone":180"#,
-            r#""height":100,"zone":180"#,
-            r#"1,"from":"2025-03-01","days":1,"method":"mwl","asr":"standard","zone":180"#,
-            r#"2,"from":"2025-03-01","days":1,"method":"mwl","asr":"standard","zone":180,"height":100,"late_isha":[]"#,
-        ),
-        (
-            r#""mwl""#,
-            r#""makkah","late_isha":[["2025-03-01","2025-03-30"],["2024-03-11","2024-03-11"]]"#,
-            r#"1,"from":"2025-03-01","days":1,"method":"mwl","asr":"standard","zone":180"#,
-            r#"2,"from":"2025-03-01","days":1,"method":"makkah","asr":"standard","zone":180,"height":0,"late_isha":[["2025-03-01","2025-03-30"],["2024-03-11","2024-03-11"]]"#,
-        ),
-    ] {
+    for (old, new, line_old, line_new) in CHANGES {
         let order = ORDER_A.replace(rt.alloc(), old, new)?;
         let line = LINE_A.replace(rt.alloc(), line_old, line_new)?;
         expect_line(&rt, order.as_str(), line.as_str())?;

@@ -1,4 +1,6 @@
 // Worked rows of zones and lines.
+ghost use Rattle.std.specs.Prelude.{◌≡◌};
+
 use crate::{
     SunChoice, Zone, date_text, day_line, day_offset, end_line, entry_text, open_line, read_rule,
     sun_word, table_head,
@@ -261,21 +263,27 @@ fn entries_have_marks(rt: HostRuntime) -> Result<(), Fail> {
     Ok(())
 }
 
+// The smallest cell at this corner and rank.
+fn smallest(x: i64, y: i64, rank: u32) -> Cell
+    ensures { result ≡ record { x = x; y = y; size = 4; first = rank; last = rank } }
+{
+    Cell {
+        x,
+        y,
+        size: 4,
+        first: rank,
+        last: rank,
+    }
+}
+
 #[test]
 fn an_open_entry_has_a_line(rt: HostRuntime) -> Result<(), Fail> {
     let alloc = rt.alloc();
     let [fajr, _, _, _, _, _, _] = problems(Method::Mwl, Asr::Standard, 10_957, 0, 720, 0, 90);
-    let cell = Cell {
-        x: 12_800_000,
-        y: 0,
-        size: 4,
-        first: 100,
-        last: 100,
-    };
     let entry = Entry::Open {
         safe: 101,
         from: 100,
-        cell,
+        cell: smallest(12_800_000, 0, 100),
     };
     assert_eq!(rt;
         entry_text(alloc, &fajr, &entry)?.as_slice(),
@@ -286,17 +294,10 @@ fn an_open_entry_has_a_line(rt: HostRuntime) -> Result<(), Fail> {
         line.as_slice(),
         "open fajr safe  01:41 from  01:40 cell 12800000 0 rank 100\n".as_bytes()
     );
-    let cell = Cell {
-        x: -16,
-        y: -32,
-        size: 4,
-        first: 720,
-        last: 720,
-    };
     let last = Entry::Open {
         safe: 721,
         from: 0,
-        cell,
+        cell: smallest(-16, -32, 720),
     };
     let line = open_line(alloc, &fajr, &last)?;
     assert_eq!(rt;
