@@ -35,8 +35,7 @@ pub struct Place {
 
 impl Place {
     ghost use Rattle.std.specs.Prelude.{◌≡◌};
-    ghost use Rattle.fixed_interval.specs.Grid.{Range};
-    ghost use Rattle.altitude_test.specs.Values.{Box, box_of};
+    ghost use Rattle.altitude_test.specs.Values.{box_of};
 
     /// The box from `x0` to `x1` and from `y0` to `y1`.
     pub fn new(x0: i64, x1: i64, y0: i64, y1: i64) -> Place

@@ -1,6 +1,6 @@
 // The sun at its noon height: sine and cosine of its declination d, and of φ - d at the latitude φ.
 ghost use Rattle.std.specs.Prelude.{◌≡◌, ◌*◌, ◌≤◌};
-ghost use Rattle.fixed_interval.specs.Grid.{UNIT, reach, grid_sum, grid_difference, grid_product, grid_root};
+ghost use Rattle.fixed_interval.specs.Grid.{UNIT, reach, grid_difference, grid_product};
 ghost use Rattle.fixed_interval.specs.Interval.{ends};
 ghost use Rattle.solar_terms.specs.Sun.{terms_of};
 ghost use Rattle.altitude_test.specs.Values.{box_of};

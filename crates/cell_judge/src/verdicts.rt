@@ -1,5 +1,5 @@
 // The verdict by an enclosure.
-ghost use Rattle.std.specs.Prelude.{◌≡◌, if◌then◌else◌};
+ghost use Rattle.std.specs.Prelude.{◌≡◌};
 ghost use Rattle.fixed_interval.specs.Interval.{ends};
 ghost use Rattle.cell_split.specs.Cells.{IsCell};
 ghost use Rattle.cell_judge.specs.Conditions.{holds_above};

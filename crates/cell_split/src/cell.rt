@@ -1,5 +1,5 @@
 // Cells and tasks.
-ghost use Rattle.std.specs.Prelude.{◌≡◌, ◌≤ℤ◌, neg_ℤ, pos, ◌+ℤ◌, ◌*ℤ◌, ◌*◌, ◌≤◌, ◌^◌, ◌↔◌, IsTrue};
+ghost use Rattle.std.specs.Prelude.{◌≡◌, ◌≤ℤ◌, neg_ℤ, pos, ◌+ℤ◌, ◌*◌, ◌≤◌, ◌^◌, ◌↔◌, IsTrue};
 ghost use Rattle.cell_split.specs.Cells.{IsCell, IsCellOf, IsFormed, IsRoot, is_smallest, root_at, side};
 
 use region::Rect;

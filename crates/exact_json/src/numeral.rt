@@ -2,7 +2,6 @@
 
 ghost use Rattle.std.specs.Prelude.{◌≡◌, ◌<◌, ◌^◌, ◌==◌, if◌then◌else◌, IsTrue, IfOk, OnOk, true};
 ghost use Rattle.exact_json.specs.Ascii.{is_digit};
-ghost use Rattle.exact_json.specs.Digits.{with_digit};
 
 use crate::decimal::{Decimal, Digits};
 use crate::held::held_exponent;

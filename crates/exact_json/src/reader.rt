@@ -1,6 +1,6 @@
 //! A whole text.
 
-ghost use Rattle.std.specs.Prelude.{◌≡◌, ◌<◌, ◌≤◌, ◌+◌, ◌^◌, ℕ, true, length, IfOk, IfErr, MatchOption, MatchResult, Ok, Err, ◌⊎◌};
+ghost use Rattle.std.specs.Prelude.{◌≡◌, ◌<◌, ◌+◌, ◌^◌, true, length, IfOk, IfErr, MatchOption, MatchResult, Ok, Err, ◌⊎◌};
 ghost use Rattle.exact_json.specs.Advance.{Goes, IsSound, Passes, Stops};
 ghost use Rattle.exact_json.specs.Grammar.{IsJsonWithin};
 ghost use Rattle.exact_json.specs.Machine.{start, is_within, run_within};

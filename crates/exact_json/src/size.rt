@@ -1,6 +1,6 @@
 //! The size of a decimal, without its sign: digits times ten to the exponent.
 
-ghost use Rattle.std.specs.Prelude.{◌≡◌, ◌≤◌, ◌<◌, ◌^◌, ◌*◌, ◌-◌, ◌+ℤ◌, ◌≤ℤ◌, pos, neg_ℤ, min, length, get_or, take, drop, option_and_then, true, nat_eq, ◌==◌, IfSome};
+ghost use Rattle.std.specs.Prelude.{◌≡◌, ◌≤◌, ◌<◌, ◌^◌, ◌*◌, ◌-◌, ◌+ℤ◌, ◌≤ℤ◌, pos, neg_ℤ, min, length, get_or, drop, option_and_then, ◌==◌};
 ghost use Rattle.std.specs.List.{list_all};
 ghost use Rattle.std.specs.Int.Digits.{number_from_digits};
 ghost use Rattle.exact_json.specs.Digits.{AreDigits, leading};

@@ -1,5 +1,5 @@
 // One problem: a row of the table for one day, and what its ranks stand for.
-ghost use Rattle.std.specs.Prelude.{◌≡◌, ◌≤◌, ◌≤ℤ◌, ◌+ℤ◌, ◌-ℤ◌, ℕ, pos, neg_ℤ};
+ghost use Rattle.std.specs.Prelude.{◌≡◌, ◌≤◌, ◌≤ℤ◌, ◌+ℤ◌, pos, neg_ℤ};
 ghost use Rattle.method_table.specs.Kind.{IsKind};
 
 /// A column of the table.

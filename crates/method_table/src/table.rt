@@ -2,7 +2,7 @@
 ghost use Rattle.std.specs.Prelude.{◌≡◌, ◌≤◌, ◌≤ℤ◌, ◌⊎◌, neg_ℤ, pos, map, IfSome};
 ghost use Rattle.method_table.specs.Kind.{IsAngleRange, IsKind};
 ghost use Rattle.method_table.specs.Row.{above, below, row, row_of};
-ghost use Rattle.method_table.specs.Table.{minutes_east, base_of, exactly, exactly_or, fajr_tenths, isha_range, isha_shift, isha_tenths, maghrib_range, maghrib_tenths, noon_of, rows, shadow_factor};
+ghost use Rattle.method_table.specs.Table.{minutes_east, base_of, exactly, exactly_or, fajr_tenths, isha_shift, isha_tenths, maghrib_tenths, noon_of, rows, shadow_factor};
 
 use crate::method::{Asr, Method};
 use crate::problem::Side::{End, Start};

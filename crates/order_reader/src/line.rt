@@ -1,5 +1,5 @@
 // The canonical line of an order.
-ghost use Rattle.std.specs.Prelude.{◌≡◌, ◌<◌, ◌≤◌, ◌≤ℤ◌, ◌++◌, neg_ℤ, pos, All, IfOk, OnOk, length, slice_index_or, [], true};
+ghost use Rattle.std.specs.Prelude.{◌≡◌, ◌<◌, ◌≤◌, ◌≤ℤ◌, ◌++◌, neg_ℤ, pos, IfOk, OnOk, length, slice_index_or, [], true};
 ghost use Rattle.std.specs.List.{list_all};
 ghost use Rattle.std.specs.String.{string_bytes};
 ghost use Rattle.year_table.specs.Dates.{date_text};

@@ -1,11 +1,9 @@
 // What the members of an order say.
-ghost use Rattle.std.specs.Prelude.{◌≡◌, length, ◌≤◌, ◌≤ℤ◌, ◌+ℤ◌, pos, neg_ℤ, true, IfOk, IfSome, OnOk, Result, option_map};
-ghost use Rattle.std.specs.Option.{ok_or};
-ghost use Rattle.exact_json.specs.Micro.{whole_of};
-ghost use Rattle.exact_json.specs.View.{tree_of, items_of, entries_of};
+ghost use Rattle.std.specs.Prelude.{◌≡◌, length, ◌≤◌, ◌≤ℤ◌, ◌+ℤ◌, pos, true, IfOk, IfSome, Result, option_map};
+ghost use Rattle.exact_json.specs.View.{tree_of, entries_of};
 ghost use Rattle.order_reader.specs.Gives.{Gives};
 ghost use Rattle.order_reader.specs.Lookup.{list_in, number_in, text_in};
-ghost use Rattle.order_reader.specs.Members.{asr_in, asr_of, days_in, from_in, height_in, late_in, method_in, night_in, offsets_in, pair_in, sun_in, sun_of, whole_within, zone_by, zone_in, zone_of_number, zone_of_text};
+ghost use Rattle.order_reader.specs.Members.{asr_in, asr_of, days_in, from_in, height_in, method_in, night_in, offsets_in, sun_in, sun_of, whole_within, zone_in, zone_of_number, zone_of_text};
 ghost use Rattle.order_reader.specs.Offsets.{first_day, is_day, is_zone, last_day, offsets_of};
 ghost use Rattle.order_reader.specs.Reading.{needed, optional};
 

@@ -1,5 +1,5 @@
 // Lists of positions, of rings and of polygons.
-ghost use Rattle.std.specs.Prelude.{◌≡◌, option_map};
+ghost use Rattle.std.specs.Prelude.{◌≡◌};
 ghost use Rattle.exact_json.specs.View.{tree_of, items_of};
 ghost use Rattle.order_reader.specs.Each.{each_of};
 ghost use Rattle.order_reader.specs.Geometry.{Answers, micro_in, whole_in, both, position_of, position_in, ring_in, polygon_in, multi_polygon_in};

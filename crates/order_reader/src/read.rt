@@ -1,11 +1,10 @@
 // Orders, read from JSON.
-ghost use Rattle.std.specs.Prelude.{◌≡◌, ◌⊎◌, ◌≤◌, ◌≤ℤ◌, ◌+ℤ◌, pos, true, Some, None, Ok, Err, IfOk, IfErr, OnOk};
+ghost use Rattle.std.specs.Prelude.{◌≡◌, ◌⊎◌, ◌≤◌, true, Some, None, Ok, Err, IfOk, IfErr};
 ghost use Rattle.exact_json.specs.View.{entries_of, tree_of};
 ghost use Rattle.order_reader.specs.Asked.{asked_of};
 ghost use Rattle.order_reader.specs.Gives.{Gives};
 ghost use Rattle.order_reader.specs.Late.{may_be_late};
 ghost use Rattle.order_reader.specs.Members.{asr_in, days_in, from_in, height_in, late_in, method_in, night_in, offsets_in, sun_in, zone_in};
-ghost use Rattle.order_reader.specs.Offsets.{first_day, last_day, offsets_of};
 ghost use Rattle.order_reader.specs.Parts.{basis_view, extras_view};
 ghost use Rattle.order_reader.specs.Reading.{asked_by, basis_of, district_in, district_of, extras_of, height_of, late_of, night_of, order_in, order_of, sun_of};
 ghost use Rattle.region.specs.Faults.{first_fault};

@@ -31,7 +31,6 @@ pub struct Minutes {
 
 impl Minutes {
     ghost use Rattle.std.specs.Prelude.{◌≡◌};
-    ghost use Rattle.fixed_interval.specs.Grid.{Range};
     ghost use Rattle.solar_terms.specs.Sun.{minutes_of};
 
     /// The minutes from `first` to `last`.
@@ -69,7 +68,7 @@ pub struct Sun {
 impl Sun {
     ghost use Rattle.std.specs.Prelude.{◌≡◌};
     ghost use Rattle.trig_series.specs.Angle.{range_of};
-    ghost use Rattle.solar_terms.specs.Sun.{SunTerms, terms_of};
+    ghost use Rattle.solar_terms.specs.Sun.{terms_of};
 
     /// The sun with these terms.
     pub fn new(sin_l: Interval, cos_l: Interval, sin_e: Interval, cos_e: Interval, q: Angle) -> Sun

@@ -1,6 +1,6 @@
 // Sources and sinks in memory whose calls fail by a plan.
-ghost use Rattle.std.specs.Prelude.{◌≡◌, ℕ, ◌<◌, ◌≤◌, min, List, Option, Some, [], length, take, drop, vec_capacity, if◌then◌else◌, IfOk, IsTrue};
-ghost use Rattle.source_sink.specs.Memory.{Plan, MemLeft, MemHeld, one_more, is_due, after_call, got_of, after_read, put_of, after_write};
+ghost use Rattle.std.specs.Prelude.{◌≡◌, ◌<◌, ◌≤◌, min, Some, [], length, take, drop, vec_capacity, IfOk, IsTrue};
+ghost use Rattle.source_sink.specs.Memory.{Plan, MemLeft, MemHeld, is_due, after_call, got_of, after_read, put_of, after_write};
 ghost use Rattle.source_sink.specs.Outside.{Rose};
 ghost use Rattle.source_sink.specs.Reading.{Reads};
 ghost use Rattle.source_sink.specs.Writing.{Writes};

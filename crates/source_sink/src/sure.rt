@@ -1,5 +1,5 @@
 // Sources and sinks in memory that never fail.
-ghost use Rattle.std.specs.Prelude.{◌≡◌, ℕ, ◌<◌, ◌≤◌, min, List, Some, [], length, drop, take, vec_capacity, false, IfOk};
+ghost use Rattle.std.specs.Prelude.{◌≡◌, ℕ, ◌<◌, ◌≤◌, min, List, Some, [], length, drop, vec_capacity, false, IfOk};
 ghost use Rattle.source_sink.specs.Memory.{got_of_count};
 ghost use Rattle.source_sink.specs.Reading.{Reads};
 ghost use Rattle.source_sink.specs.Sure.{Kept, told_of, kept_after};

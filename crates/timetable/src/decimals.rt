@@ -1,9 +1,9 @@
 // Numbers as words spell them and as lines print them.
-ghost use Rattle.std.specs.Prelude.{◌≡◌, ◌+◌, ◌-◌, ◌*◌, ◌/◌, ◌%◌, ◌^◌, ◌<◌, ◌≤◌, ◌<ℤ◌, length, take, IsTrue, IfSome, IfOk, unsigned_abs, string_bytes, decimal, ◌++◌};
+ghost use Rattle.std.specs.Prelude.{◌≡◌, ◌+◌, ◌-◌, ◌*◌, ◌/◌, ◌%◌, ◌^◌, ◌<◌, ◌≤◌, length, IsTrue, IfSome, IfOk, unsigned_abs, string_bytes, decimal};
 ghost use Rattle.std.specs.Char.{is_ascii_digit, digit_value};
 ghost use Rattle.std.specs.List.{list_all};
 ghost use Rattle.std.specs.Str.Parse.{digits_value};
-ghost use Rattle.timetable.specs.Decimals.{digits_in, places_in, millionths_in, decimal_of, is_negative, without_sign, with_sign, at_most, sign_text, places_text, decimal_text};
+ghost use Rattle.timetable.specs.Decimals.{digits_in, places_in, millionths_in, is_negative, without_sign, with_sign, sign_text, places_text, decimal_text};
 
 use std::alloc::{AllocError, Global};
 

@@ -1,10 +1,10 @@
 // The program on one thread.
-ghost use Rattle.std.specs.Prelude.{◌≡◌, ℕ, List, ◌∷◌, Some, Ok, codes, map, IsTrue, string_bytes};
+ghost use Rattle.std.specs.Prelude.{◌≡◌, ℕ, List, Some, Ok, map, IsTrue, string_bytes};
 ghost use Rattle.source_sink.specs.Outside.{Rose};
 ghost use Rattle.order_reader.specs.Asked.{Asked};
 ghost use Rattle.timetable.specs.Answer.{answer_of, answer_to, command_of, reads_input, plain, sun, IsInput, line_of};
 ghost use Rattle.timetable.specs.Commands.{command_view};
-ghost use Rattle.timetable.specs.Endings.{EndsBy, line_of_ending, status_of_ending};
+ghost use Rattle.timetable.specs.Endings.{EndsBy, status_of_ending};
 ghost use Rattle.timetable.specs.Input.{Input, IsSpelledBy, read};
 ghost use Rattle.timetable.specs.Request.{request_in};
 ghost use Rattle.timetable.specs.RightTable.{IsRightTable, IsWritten};

@@ -1,5 +1,5 @@
 // The words of `sun MINUTE LON LAT WHAT`.
-ghost use Rattle.std.specs.Prelude.{◌≡◌, ◌≤◌, ℕ, map, pos, ◌≤ℤ◌, IfSome, Some, option_map, string_bytes};
+ghost use Rattle.std.specs.Prelude.{◌≡◌, ◌≤◌, map, pos, ◌≤ℤ◌, IfSome, Some, option_map, string_bytes};
 ghost use Rattle.timetable.specs.Decimals.{at_most, with_sign};
 ghost use Rattle.timetable.specs.Request.{minute_in, coordinate_in, angle_in, question_in, request_in, IsWithin, IsAsked, IsInRange};
 

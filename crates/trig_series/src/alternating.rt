@@ -5,7 +5,7 @@ ghost use Rattle.std.specs.Prelude.{◌≡◌, ◌+◌, ◌*◌, ◌^◌, ◌≤
 ghost use Rattle.fixed_interval.specs.Grid.{UNIT, DEPTH, reach, grid_product, grid_divide_by};
 ghost use Rattle.fixed_interval.specs.Interval.{ends};
 ghost use Rattle.trig_series.specs.Magnitudes.{ends_of};
-ghost use Rattle.trig_series.specs.Series.{divisor, grid_term, grid_series, grid_sine_series, grid_cosine_series};
+ghost use Rattle.trig_series.specs.Series.{grid_term, grid_series, grid_sine_series, grid_cosine_series};
 
 use crate::magnitudes::Magnitudes;
 use crate::series::{TERMS, margin};

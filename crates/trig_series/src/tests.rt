@@ -1,5 +1,5 @@
 // What no clause says: that the definitions mean what they should. The ends come from an independent program.
-ghost use Rattle.std.specs.Prelude.{◌≡◌, ◌-ℤ◌, ◌≤ℤ◌, pos};
+ghost use Rattle.std.specs.Prelude.{◌-ℤ◌, ◌≤ℤ◌, pos};
 
 use crate::{Angle, cosine, pi, sine};
 use std::process::Abort;

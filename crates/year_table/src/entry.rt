@@ -1,5 +1,5 @@
 // The texts of dates, entries and days.
-ghost use Rattle.std.specs.Prelude.{◌≡◌, ◌≤◌, ◌≤ℤ◌, ◌++◌, neg_ℤ, pos, All, IfOk, OnOk, length, codes, flat_map, zip};
+ghost use Rattle.std.specs.Prelude.{◌≡◌, ◌≤◌, ◌≤ℤ◌, ◌++◌, neg_ℤ, pos, All, IfOk, OnOk, length, flat_map, zip};
 ghost use Rattle.std.specs.String.{string_bytes};
 ghost use Rattle.method_table.specs.Row.{row_of};
 ghost use Rattle.year_table.specs.Dates.{date_text};
