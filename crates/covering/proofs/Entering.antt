@@ -1,5 +1,5 @@
 -- The entry of a tree, by its refuted rank and its first open leaf.
-use Rattle.std.proofs.Common.{◌≡◌, ℕ, ◌+◌, ◌<◌, ◌≤◌, Bool, true, false, cond, eqb, ltb, List, Option, Some, None, refl, sym, ap, ◌∙◌, subst, arith, rules}
+use Rattle.std.proofs.Common.{◌≡◌, ℕ, ◌<◌, ◌≤◌, true, cond, eqb, ltb, List, Option, Some, None, refl, sym, ap, ◌∙◌, subst, arith, rules}
 use Rattle.std.specs.Prelude.{◌&&◌, IfSome}
 use Rattle.std.proofs.lemmas.Bool.Decides.{nat_tests}
 use Rattle.cell_split.specs.declared.cell.Cell.{Cell}
@@ -10,23 +10,18 @@ use Rattle.cell_split.specs.Entries.{decided, entry_by, first_open, is_open_abov
 use Rattle.cell_split.specs.Judges.{Content, IsLawful, IsTask}
 use Rattle.cell_split.specs.Tree.{IsLeafOf, root_task, top}
 use Rattle.cell_split.specs.Verdicts.{is_open}
-use Rattle.cell_split.proofs.Every.{Every-all, Every-both, by_test}
+use Rattle.cell_split.proofs.Every.{Every-both, by_test}
 use Rattle.cell_split.proofs.LeafLemmas.{IsUnder, leaves_in_tree}
 use Rattle.covering.specs.Entries.{IsEntryIn, IsOpenIn}
 use Rattle.covering.specs.Seeks.{open_of}
 use Rattle.covering.specs.Settles.{leaves_of, refuted_word_of}
 use Rattle.covering.proofs.Greatest.{greatest_above}
 use Rattle.covering.proofs.Harvested.{greatest_in_frame, leaves_in_root}
-use Rattle.covering.proofs.Walking.{and_parts, find_none, found_has}
+use Rattle.covering.proofs.Walking.{and_parts, found_has, none_at_word_0}
 
 -- no leaf has the word 0
 pub none_open : (ls : List Leaf) → first_open 0 ls ≡ None
-none_open ls =
-    find_none (λ l. is_open l.verdict && eqb (last_word l) 0) ls (Every-all (λ l. (is_open l.verdict && eqb (last_word l) 0) ≡ false) ls (λ l. no_word (is_open l.verdict) l.task.cell.last))
-  where
-    no_word : (b : Bool) (last : ℕ) → (b && eqb (last + 1) 0) ≡ false
-    no_word true last = grind (arith, nat_tests)
-    no_word false last = refl
+none_open ls = none_at_word_0 is_open ls
 
 -- what the first open leaf is: a leaf of the tree in its root, open at the greatest open rank
 record IsFirstOpen (c : Content) (k : ℕ) (l : Leaf) : Type 0 where

@@ -1,9 +1,9 @@
 -- The refuted leaf that is named: there is one exactly where a rank is refuted.
-use Rattle.std.proofs.Common.{◌≡◌, ℕ, zero, suc, ◌+◌, ◌<◌, Bool, true, false, not, eqb, List, find, Option, Some, None, refl, sym, ap, ◌∙◌, pos, neg_ℤ, arith}
+use Rattle.std.proofs.Common.{◌≡◌, ℕ, zero, suc, ◌<◌, Bool, true, false, not, eqb, List, find, Option, Some, None, refl, sym, ap, ◌∙◌, pos, neg_ℤ, arith}
 use Rattle.std.specs.Prelude.{◌&&◌}
 use Rattle.std.specs.Option.{is_none, is_some, option_and_then}
 use Rattle.std.specs.Ordering.{int_eq}
-use Rattle.std.proofs.lemmas.Bool.Decides.{Decides-int_eq, nat_tests}
+use Rattle.std.proofs.lemmas.Bool.Decides.{Decides-int_eq}
 use Rattle.std.proofs.lemmas.Int.{ints}
 use Rattle.cell_split.specs.declared.verdict.Leaf.{Leaf}
 use Rattle.cell_split.specs.declared.verdict.Verdict.{Verdict}
@@ -12,18 +12,12 @@ use Rattle.cell_split.specs.Entries.{last_word, refuted_word}
 use Rattle.cell_split.specs.Verdicts.{is_refuted}
 use Rattle.cell_split.proofs.Every.{Every-all}
 use Rattle.covering.specs.Refuted.{first_refuted, rank_of, refuted_at}
-use Rattle.covering.proofs.Walking.{and_parts, found_has}
+use Rattle.covering.proofs.Walking.{and_parts, found_has, none_at_word_0}
 use Rattle.covering.proofs.Greatest.{greatest_found}
-use Rattle.covering.proofs.Walking.{find_none}
 
 -- no leaf has the word 0
 pub none_refuted : (ls : List Leaf) → first_refuted 0 ls ≡ None
-none_refuted ls =
-    ap (option_and_then refuted_at) (find_none (λ l. is_refuted l.verdict && eqb (last_word l) 0) ls (Every-all (λ l. (is_refuted l.verdict && eqb (last_word l) 0) ≡ false) ls (λ l. no_word (is_refuted l.verdict) l.task.cell.last)))
-  where
-    no_word : (b : Bool) (last : ℕ) → (b && eqb (last + 1) 0) ≡ false
-    no_word true last = grind (arith, nat_tests)
-    no_word false last = refl
+none_refuted ls = ap (option_and_then refuted_at) (none_at_word_0 is_refuted ls)
 
 -- a refuted leaf has a place that refutes it
 has_point : (l : Leaf) → is_refuted l.verdict ≡ true → is_some (refuted_at l) ≡ true

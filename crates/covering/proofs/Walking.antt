@@ -10,11 +10,12 @@ use Rattle.cell_split.specs.declared.cell.Cell.{Cell}
 use Rattle.cell_split.specs.declared.cell.Task.{Task}
 use Rattle.cell_split.specs.declared.verdict.Leaf.{Leaf}
 use Rattle.cell_split.specs.declared.verdict.Verdict.{Verdict}
+use Rattle.cell_split.specs.Entries.{last_word}
 use Rattle.cell_split.specs.Judges.{Content, IsTask}
 use Rattle.cell_split.specs.Split.{children_of}
 use Rattle.cell_split.specs.Tree.{leaves, task_of}
 use Rattle.cell_split.specs.Verdicts.{is_split}
-use Rattle.cell_split.proofs.Every.{Every, Every-weaker, flat_map-map}
+use Rattle.cell_split.proofs.Every.{Every, Every-all, Every-weaker, flat_map-map}
 use Rattle.cell_split.proofs.LeafLemmas.{IsUnder, leaves_under}
 use Rattle.cell_split.proofs.TreeLemmas.{leaves_of_leaf, leaves_of_split}
 use Rattle.covering.specs.declared.leaf_walk.Sought.{Sought}
@@ -45,6 +46,11 @@ not_sought sought rank t l (inr late) under =
 pub find_none : (test : Leaf → Bool) (ls : List Leaf) → Every (λ l. test l ≡ false) ls → find test ls ≡ None
 find_none test [] h = refl
 find_none test (l ∷ ls) h = rw h.0 (find_none test ls h.1)
+
+-- no leaf has the word 0
+pub none_at_word_0 : (kind : Verdict → Bool) (ls : List Leaf) → find (λ l. kind l.verdict && eqb (last_word l) 0) ls ≡ None
+none_at_word_0 kind ls =
+    find_none (λ l. kind l.verdict && eqb (last_word l) 0) ls (Every-all (λ l. (kind l.verdict && eqb (last_word l) 0) ≡ false) ls (λ l. and_false (kind l.verdict) (eqb (l.task.cell.last + 1) 0) (grind (arith, nat_tests))))
 
 -- what is found passes, and has what each leaf has
 pub found_has : (P : Leaf → Type 0) (test : Leaf → Bool) (ls : List Leaf) (l : Leaf) → Every P ls → Some l ≡ find test ls → P l × (test l ≡ true)
