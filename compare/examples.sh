@@ -1,5 +1,5 @@
 #!/usr/bin/env bash
-# bench/examples.sh [PROGRAM]: compares the table of each order in examples/ with what the proved program prints, and exits
+# compare/examples.sh [PROGRAM]: compares the table of each order in examples/ with what the proved program prints, and exits
 # with 1 if one differs.
 set -euo pipefail
 top=$(cd "$(dirname "$0")/.." && pwd)
