@@ -2,7 +2,7 @@
 // Contract: each operation gives exactly the grid form of its definition.
 #![tactic(auto)]
 
-ghost use Rattle.std.specs.Prelude.{ℕ, pos, ◌≡◌, ◌+◌, ◌^◌, ◌≤◌, ◌≤ℤ◌, ◌+ℤ◌, ◌-ℤ◌, ◌*◌, unsigned_abs, max};
+ghost use Rattle.std.specs.Prelude.{ℕ, pos, ◌≡◌, ◌+◌, ◌^◌, ◌<◌, ◌≤◌, ◌≤ℤ◌, ◌+ℤ◌, ◌-ℤ◌, ◌*◌, unsigned_abs, max};
 ghost use Rattle.std.specs.Int.{div_ceil};
 ghost use Rattle.fixed_interval.specs.Grid.{reach, UNIT, grid_sum, grid_difference, grid_product, grid_divide_by};
 ghost use Rattle.fixed_interval.specs.Grid.{grid_hull, grid_magnitude, grid_signed_square, grid_root};
@@ -79,6 +79,16 @@ impl Interval {
             lo: floor_to_grid(least),
             hi: ceil_to_grid(greatest),
         }
+    }
+
+    /// All products of a number of each, for ends below 2^63: as `product`, on 64-bit words.
+    pub fn narrow_product(self, other: Interval) -> Interval
+        requires self_narrow { reach (ends self) < 2 ^ 63 }
+        requires other_narrow { reach (ends other) < 2 ^ 63 }
+        ensures value { ends result ≡ grid_product (ends self) (ends other) }
+        ensures bound { reach (ends result) ≤ div_ceil (reach (ends self) * reach (ends other)) UNIT }
+    {
+        self.product(other)
     }
 
     /// All numbers of the interval over `n`, which is at least 1.
