@@ -17,7 +17,7 @@ pub use laws::{
     grid_sines_are_monotone, grid_sines_hold_exact, sines_are_bounded, sines_are_monotone,
     sines_are_ordered, sines_nest,
 };
-pub use quarters::{cosine, sine};
+pub use quarters::{SineAndCosine, cosine, sine, sine_and_cosine};
 pub use series::pi;
 
 /// A range of angles from `lo` to `hi`, in whole angle units, of which 144,000,000,000 make one degree.

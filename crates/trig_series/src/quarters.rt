@@ -44,6 +44,28 @@ pub fn cosine(a: Angle) -> Interval
     over_quarters(a, 1)
 }
 
+/// Enclosures of the sine and of the cosine of a range of angles, both within 4/3.
+#[derive(Clone, Copy)]
+pub struct SineAndCosine {
+    pub sine: Interval,
+    pub cosine: Interval,
+}
+
+/// Enclosures of the sine and of the cosine of every angle of `a`, which is at most 360 degrees wide:
+/// what `sine` and `cosine` give.
+pub fn sine_and_cosine(a: Angle) -> SineAndCosine
+    requires { (a.hi -ℤ a.lo) ≤ℤ pos 51_840_000_000_000 }
+    ensures sine { ends result.sine ≡ grid_sine (range_of a) }
+    ensures sine_bound { 3 * reach (ends result.sine) ≤ 4 * UNIT }
+    ensures cosine { ends result.cosine ≡ grid_cosine (range_of a) }
+    ensures cosine_bound { 3 * reach (ends result.cosine) ≤ 4 * UNIT }
+{
+    SineAndCosine {
+        sine: sine(a),
+        cosine: cosine(a),
+    }
+}
+
 /// The sine of every angle of `a` with `ahead` quarters added.
 fn over_quarters(a: Angle, ahead: i128) -> Interval
     requires { unsigned_abs ahead ≤ 1 }
