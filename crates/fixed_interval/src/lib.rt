@@ -9,6 +9,7 @@ ghost use Rattle.fixed_interval.specs.Grid.{grid_hull, grid_magnitude, grid_sign
 ghost use Rattle.fixed_interval.specs.Grid.{grid_scale_units, grid_times_ratio};
 
 pub mod laws;
+mod root;
 mod steps;
 #[cfg(test)]
 mod tests;

@@ -1,7 +1,9 @@
 // Steps on whole numbers. Each does one operation, so that its clause is exact and the operations above only join them.
 ghost use Rattle.std.specs.Prelude.{◌≡◌, ◌*◌, ◌^◌, ◌≤◌, pos, ◌*ℤ◌, ◌≤ℤ◌, unsigned_abs, max};
 ghost use Rattle.fixed_interval.specs.Whole.{floor_over, ceil_over, least_of_four, greatest_of_four};
-ghost use Rattle.fixed_interval.specs.Enclosure.{natural, whole_root, root_up};
+ghost use Rattle.fixed_interval.specs.Enclosure.{natural, whole_root as the_whole_root, root_up};
+
+use crate::root::{square, whole_root};
 
 /// A product that fits.
 pub fn exact_product(x: i128, y: i128) -> i128
@@ -90,17 +92,17 @@ pub fn radicand(x: i128) -> u128
 
 /// The square root of `n`, rounded down.
 pub fn root_down(n: u128) -> i128
-    ensures { result ≡ pos (whole_root n) }
+    ensures { result ≡ pos (the_whole_root n) }
 {
-    n.isqrt() as i128
+    whole_root(n) as i128
 }
 
 /// The square root of `n`, rounded up.
 pub fn root_up(n: u128) -> i128
     ensures { result ≡ pos (root_up n) }
 {
-    let root = n.isqrt();
-    if root * root == n {
+    let root = whole_root(n);
+    if square(root) == n {
         root as i128
     } else {
         root as i128 + 1

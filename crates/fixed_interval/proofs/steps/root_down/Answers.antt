@@ -1,8 +1,6 @@
--- What `isqrt` ensures leaves one number: the root rounded down.
-use Rattle.std.proofs.Common.{pos, ap, sym, ◌∙◌, arith}
+use Rattle.std.proofs.Common.{pos, ap, ◌∙◌, arith}
 use Rattle.fixed_interval.proofs.Bits.{read_natural}
-use Rattle.fixed_interval.proofs.RootLaws.{whole_root_unique}
 use Rattle.fixed_interval.proofs.steps.root_down.Goals as goal
 
 pub returns : goal.returns
-returns c = read_natural c.isqrt.result (omega (arith, c.isqrt.ensures.bound)) ∙ ap pos (sym (whole_root_unique c.args.n c.isqrt.result c.isqrt.ensures.square_le c.isqrt.ensures.next_square_gt))
+returns c = read_natural c.whole_root.result (omega arith) ∙ ap pos c.whole_root.ensures
