@@ -1,8 +1,10 @@
 pub mod FractionSums
 pub mod PiLaws
 pub mod Mirrored
+pub mod Words
 pub mod MagnitudeSteps
 pub mod SeriesSteps
+pub mod PairSteps
 pub mod SeriesLaws
 pub mod SeriesNesting
 pub mod Margins

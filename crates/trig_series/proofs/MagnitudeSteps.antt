@@ -1,9 +1,10 @@
 -- Products and quotients of numbers that aren't negative, as plain formulas.
-use Rattle.std.proofs.Common.{◌≡◌, ℕ, ◌+◌, ◌*◌, ◌/◌, ◌<◌, ◌≤◌, ℤ, pos, neg_ℤ, ◌*ℤ◌, arith, ap, sym, ◌∙◌, refl, lit≤, mul-le-mul, le_refl}
+use Rattle.std.proofs.Common.{◌≡◌, ℕ, ◌+◌, ◌*◌, ◌/◌, ◌<◌, ◌≤◌, ℤ, pos, neg_ℤ, ◌*ℤ◌, arith, ap, sym, ◌∙◌, refl, lit≤, mul-le-mul, le_refl, zero, suc}
 use Rattle.std.specs.Int.{div_ceil}
+use Rattle.std.proofs.Math.Nat.{zero-div, zero-mul}
 use Rattle.std.proofs.lemmas.Int.{ints, clamps}
 use Rattle.std.proofs.lemmas.Grind.{div_ceil_times}
-use Rattle.fixed_interval.specs.Grid.{UNIT, grid_product, grid_divide_by}
+use Rattle.fixed_interval.specs.Grid.{Ends, UNIT, grid_product, grid_divide_by}
 use Rattle.fixed_interval.specs.Whole.{floor_over, ceil_over, least_of_four, greatest_of_four}
 use Rattle.fixed_interval.proofs.Whole.{div_unique}
 use Rattle.fixed_interval.proofs.GridLaws.{grid_product-is, grid_divide_by-is}
@@ -35,3 +36,38 @@ pub multiplied : (l h m k : ℕ) → l ≤ h → m ≤ k → record { lo = pos (
 multiplied l h m k p q =
     let ends = corners l h m k p q in
     (λ i. record { lo = floor_over (sym ends.0 i) UNIT; hi = (sym (ceil-natural (h * k) UNIT (lit≤ tt)) ∙ ap (λ (z : ℤ). ceil_over z UNIT) (sym ends.1)) i }) ∙ sym (grid_product-is (record { lo = pos l; hi = pos h }) (record { lo = pos m; hi = pos k }))
+
+-- 0, or 0 and 1 units, stay so times what reaches 1 unit where they do, over any number
+once : (d n : ℕ) → 1 ≤ d * n → d * n < 1 + n → 1 ≤ n → d ≡ 1
+once zero n p q h = absurd (omega (arith, p))
+once (suc zero) n p q h = refl
+once (suc (suc k)) n p q h = absurd (omega (arith, q, h))
+
+never : (d n : ℕ) → d * n < 0 + n → 1 ≤ n → d ≡ 0
+never zero n q h = refl
+never (suc k) n q h = absurd (omega (arith, q, h))
+
+over_any : (g n : ℕ) → g ≤ 1 → 1 ≤ n → div_ceil g n ≡ g
+over_any zero n h k = let near = div_ceil_times 0 n k in never (div_ceil 0 n) n near.1 k
+over_any (suc zero) n h k = let near = div_ceil_times 1 n k in once (div_ceil 1 n) n near.0 near.1 k
+over_any (suc (suc j)) n h k = absurd (omega (arith, h))
+
+one_unit : (g k : ℕ) → g ≤ 1 → g ≤ k → k ≤ UNIT → div_ceil (g * k) UNIT ≡ g
+one_unit g k h p q = by g h p (div_ceil_times (g * k) UNIT (lit≤ tt))
+  where
+    by : (g : ℕ) → g ≤ 1 → g ≤ k → (g * k ≤ div_ceil (g * k) UNIT * UNIT) × (div_ceil (g * k) UNIT * UNIT < g * k + UNIT) → div_ceil (g * k) UNIT ≡ g
+    by zero h p near = omega (arith, near.0, near.1)
+    by (suc zero) h p near = omega (arith, near.0, near.1, p, q)
+    by (suc (suc j)) h p near = absurd (omega (arith, h))
+
+pub level : (l g m k n : ℕ) → l ≡ 0 → g ≤ 1 → g ≤ k → m ≤ k → k ≤ UNIT → 1 ≤ n → grid_divide_by (grid_product (record { lo = pos l; hi = pos g }) (record { lo = pos m; hi = pos k })) n ≡ record { lo = pos l; hi = pos g }
+level l g m k n e h p q r s = ap (λ (x : Ends). grid_divide_by x n) (sym (multiplied l g m k (omega arith) q)) ∙ sym (divided (l * m / UNIT) (div_ceil (g * k) UNIT) n s) ∙ (λ i. record { lo = pos (least i); hi = pos (greatest i) })
+  where
+    nothing : l * m / UNIT ≡ 0
+    nothing = ap (λ (x : ℕ). x * m / UNIT) e ∙ ap (λ (x : ℕ). x / UNIT) (zero-mul m)
+
+    least : l * m / UNIT / n ≡ l
+    least = ap (λ (x : ℕ). x / n) nothing ∙ zero-div n ∙ sym e
+
+    greatest : div_ceil (div_ceil (g * k) UNIT) n ≡ g
+    greatest = ap (λ (x : ℕ). div_ceil x n) (one_unit g k h p r) ∙ over_any g n h s

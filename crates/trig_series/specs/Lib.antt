@@ -1,7 +1,9 @@
 pub mod Angle
 pub mod Magnitudes
+pub mod Short
 pub mod Pi
 pub mod Series
+pub mod PartialSum
 pub mod Quarters
 pub mod Sine
 pub mod Laws

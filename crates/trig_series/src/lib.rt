@@ -8,6 +8,7 @@ mod laws;
 mod magnitudes;
 mod quarters;
 mod series;
+mod short;
 #[cfg(test)]
 mod tests;
 

@@ -4,6 +4,7 @@ ghost use Rattle.std.specs.Prelude.{◌≡◌, ◌≤◌, ◌*◌, ◌/◌};
 ghost use Rattle.std.specs.Int.{div_ceil};
 ghost use Rattle.fixed_interval.specs.Grid.{UNIT};
 
+use crate::short::Short;
 use fixed_interval::Interval;
 
 /// The number 1 on the grid.
@@ -19,10 +20,11 @@ pub(crate) struct Magnitudes {
 }
 
 impl Magnitudes {
-    ghost use Rattle.std.specs.Prelude.{pos, ◌≤ℤ◌};
+    ghost use Rattle.std.specs.Prelude.{ℕ, true, pos, ◌≤ℤ◌};
     ghost use Rattle.fixed_interval.specs.Grid.{reach, grid_product, grid_divide_by};
     ghost use Rattle.fixed_interval.specs.Interval.{ends};
     ghost use Rattle.trig_series.specs.Magnitudes.{ends_of};
+    ghost use Rattle.trig_series.specs.Short.{ends_of as short_ends};
 
     /// The number 1 alone.
     pub(crate) fn one() -> Magnitudes
@@ -52,6 +54,24 @@ impl Magnitudes {
         ensures bound { reach (ends result) ≤ UNIT }
     {
         Interval::new(i128::from(self.least), i128::from(self.greatest))
+    }
+
+    /// The same numbers as a short interval.
+    pub(crate) fn short(self) -> Short
+        ensures value { short_ends result ≡ ends_of self }
+        ensures bound { reach (short_ends result) ≤ UNIT }
+    {
+        Short {
+            lo: self.least as i64,
+            hi: self.greatest as i64,
+        }
+    }
+
+    /// Whether these are 0, or 0 and 1 units, and stay so times `square` over any number.
+    pub(crate) fn is_level(self, square: Magnitudes) -> bool
+        ensures { result ≡ true → (n : ℕ) → 1 ≤ n → grid_divide_by (grid_product (ends_of self) (ends_of square)) n ≡ ends_of self }
+    {
+        self.least == 0 && self.greatest <= square.greatest.min(1)
     }
 
     /// All products of a number of each.
