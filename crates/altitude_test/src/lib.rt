@@ -5,13 +5,13 @@
 ghost use Rattle.std.specs.Prelude.{neg_ℤ, pos, ◌-ℤ◌, ◌≤ℤ◌};
 
 pub mod angles;
+mod directions;
 pub mod laws;
 mod products;
-#[cfg(test)]
-mod tests;
 mod values;
 
-pub use values::{altitude_sine, altitude_value, meridian_value};
+pub use directions::{Direction, latitude_direction};
+pub use values::{altitude_sine, altitude_sine_at, altitude_value, meridian_value};
 
 /// A closed box of places in place units of 1/128 microdegree: `x` is the longitude, positive to the east, `y` the latitude.
 ///

@@ -1,54 +1,61 @@
 // The values of a box of places and a range of minutes.
-ghost use Rattle.std.specs.Prelude.{◌≡◌, ◌*◌, ◌≤◌, pos, ◌-ℤ◌, ◌≤ℤ◌};
+ghost use Rattle.std.specs.Prelude.{◌≡◌, ◌*◌, ◌≤◌, pos, ◌≤ℤ◌};
 ghost use Rattle.fixed_interval.specs.Grid.{UNIT, reach, grid_sum, grid_product};
 ghost use Rattle.fixed_interval.specs.Interval.{ends};
 ghost use Rattle.trig_series.specs.Angle.{range_of};
 ghost use Rattle.trig_series.specs.Sine.{grid_sine, grid_cosine};
 ghost use Rattle.solar_terms.specs.Sun.{minutes_of, terms_of};
-ghost use Rattle.altitude_test.specs.Values.{box_of, grid_altitude_sine, grid_altitude_value, grid_meridian_value};
+ghost use Rattle.altitude_test.specs.Values.{box_of, grid_latitude, grid_altitude_sine, grid_altitude_value, grid_meridian_value};
 
 use crate::Place;
-use crate::angles::{latitude, sidereal_time};
+use crate::angles::sidereal_time;
+use crate::directions::{Direction, direction_of, latitude_direction};
 use crate::products::{product_of_three, product_of_two};
 use fixed_interval::Interval;
 use solar_terms::{Minutes, Sun};
-use trig_series::{Angle, cosine, sine};
+use trig_series::{Angle, sine};
 
 // cos θ · cos L + sin θ · cos e · sin L at the sidereal time θ.
-fn toward_meridian(s: &Sun, theta: Angle) -> Interval
-    requires { (theta.hi -ℤ theta.lo) ≤ℤ pos 51840000000000 }
+fn toward_meridian(s: &Sun, theta: Direction) -> Interval
     ensures value { ends result ≡ grid_sum
-        (grid_product (grid_cosine (range_of theta)) (ends s.now.cos_l))
-        (grid_product (grid_product (grid_sine (range_of theta)) (ends s.now.cos_e)) (ends s.now.sin_l)) }
+        (grid_product (ends theta.cosine) (ends s.now.cos_l))
+        (grid_product (grid_product (ends theta.sine) (ends s.now.cos_e)) (ends s.now.sin_l)) }
     ensures bound { 100 * reach (ends result) ≤ 416 * UNIT }
 {
-    let level = product_of_two(cosine(theta), s.cos_l);
-    level.sum(product_of_three(sine(theta), s.cos_e, s.sin_l))
+    let level = product_of_two(theta.cosine, s.cos_l);
+    level.sum(product_of_three(theta.sine, s.cos_e, s.sin_l))
 }
 
 // cos φ times the part toward the meridian.
-fn level_part(s: &Sun, phi: Angle, theta: Angle) -> Interval
-    requires phi_narrow { (phi.hi -ℤ phi.lo) ≤ℤ pos 51840000000000 }
-    requires theta_narrow { (theta.hi -ℤ theta.lo) ≤ℤ pos 51840000000000 }
+fn level_part(s: &Sun, phi: Direction, theta: Direction) -> Interval
     ensures value { ends result ≡ grid_product
-        (grid_cosine (range_of phi))
+        (ends phi.cosine)
         (grid_sum
-        (grid_product (grid_cosine (range_of theta)) (ends s.now.cos_l))
-        (grid_product (grid_product (grid_sine (range_of theta)) (ends s.now.cos_e)) (ends s.now.sin_l))) }
+        (grid_product (ends theta.cosine) (ends s.now.cos_l))
+        (grid_product (grid_product (ends theta.sine) (ends s.now.cos_e)) (ends s.now.sin_l))) }
     ensures bound { 100 * reach (ends result) ≤ 555 * UNIT }
 {
-    cosine(phi).product(toward_meridian(s, theta))
+    phi.cosine.product(toward_meridian(s, theta))
 }
 
 /// The sine of the sun's altitude over the places `p` at the minutes `m`, whose sun is `s`: at most 8.
-#[tactic(auto, unfolding(crate::specs::Values::grid_altitude_sine))]
 pub fn altitude_sine(s: &Sun, m: Minutes, p: Place) -> Interval
     ensures value { ends result ≡ grid_altitude_sine (terms_of s.now) (minutes_of m) (box_of p) }
     ensures bound { reach (ends result) ≤ 8 * UNIT }
 {
-    let phi = latitude(p);
-    let up = product_of_three(sine(phi), s.sin_e, s.sin_l);
-    up.sum(level_part(s, phi, sidereal_time(s, m, p)))
+    altitude_sine_at(s, m, p, latitude_direction(p))
+}
+
+/// The same, with the sine and the cosine of the places' latitudes already made.
+#[tactic(auto, unfolding(crate::specs::Values::grid_altitude_sine), using(fixed_interval::proofs::Sizes::abs_sum))]
+pub fn altitude_sine_at(s: &Sun, m: Minutes, p: Place, phi: Direction) -> Interval
+    requires sine { ends phi.sine ≡ grid_sine (grid_latitude (box_of p)) }
+    requires cosine { ends phi.cosine ≡ grid_cosine (grid_latitude (box_of p)) }
+    ensures value { ends result ≡ grid_altitude_sine (terms_of s.now) (minutes_of m) (box_of p) }
+    ensures bound { reach (ends result) ≤ 8 * UNIT }
+{
+    let up = product_of_three(phi.sine, s.sin_e, s.sin_l);
+    up.sum(level_part(s, phi, direction_of(sidereal_time(s, m, p))))
 }
 
 /// The altitude value for every angle of a range: above zero where the sun is above each of these angles below
@@ -67,7 +74,7 @@ pub fn altitude_value(s: &Sun, m: Minutes, p: Place, angle: Angle) -> Interval
 pub fn meridian_value(s: &Sun, m: Minutes, p: Place) -> Interval
     ensures { ends result ≡ grid_meridian_value (terms_of s.now) (minutes_of m) (box_of p) }
 {
-    let theta = sidereal_time(s, m, p);
-    let east = product_of_two(sine(theta), s.cos_l);
-    east.difference(product_of_three(cosine(theta), s.cos_e, s.sin_l))
+    let theta = direction_of(sidereal_time(s, m, p));
+    let east = product_of_two(theta.sine, s.cos_l);
+    east.difference(product_of_three(theta.cosine, s.cos_e, s.sin_l))
 }

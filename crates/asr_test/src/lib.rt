@@ -4,8 +4,6 @@
 
 pub mod laws;
 mod noon;
-#[cfg(test)]
-mod tests;
 mod value;
 
 pub use value::asr_value;

@@ -1,16 +1,13 @@
 // The sun at its noon height: sine and cosine of its declination d, and of φ - d at the latitude φ.
 ghost use Rattle.std.specs.Prelude.{◌≡◌, ◌*◌, ◌≤◌};
-ghost use Rattle.fixed_interval.specs.Grid.{UNIT, reach, grid_difference, grid_product};
+ghost use Rattle.fixed_interval.specs.Grid.{UNIT, reach, grid_sum, grid_difference, grid_product};
 ghost use Rattle.fixed_interval.specs.Interval.{ends};
 ghost use Rattle.solar_terms.specs.Sun.{terms_of};
-ghost use Rattle.altitude_test.specs.Values.{box_of};
-ghost use Rattle.asr_test.specs.Asr.{grid_one, grid_sine_declination, grid_cosine_declination, grid_noon_cosine, grid_noon_sine};
+ghost use Rattle.asr_test.specs.Asr.{grid_one, grid_sine_declination, grid_cosine_declination};
 
-use altitude_test::Place;
-use altitude_test::angles::latitude;
+use altitude_test::Direction;
 use fixed_interval::Interval;
 use solar_terms::Sun;
-use trig_series::{cosine, sine};
 
 #[tactic(auto, unfolding(crate::specs::Asr::grid_one))]
 pub(crate) fn one() -> Interval
@@ -18,6 +15,15 @@ pub(crate) fn one() -> Interval
     ensures bound { reach (ends result) ≤ UNIT }
 {
     Interval::new(1 << 56, 1 << 56)
+}
+
+// The sine and the cosine of the sun's declination.
+#[derive(Clone, Copy)]
+pub(crate) struct Declination {
+    pub(crate) sine: Interval,
+    pub(crate) cosine: Interval,
+    ghost sine_small: { 100 * reach (ends sine) ≤ 178 * UNIT },
+    ghost cosine_small: { 100 * reach (ends cosine) ≤ 205 * UNIT },
 }
 
 // sin d = sin e · sin L.
@@ -49,11 +55,24 @@ fn one_less_square(w: Interval) -> Interval
 
 // cos d = root(1 - sin d · sin d).
 #[tactic(auto, unfolding(crate::specs::Asr::grid_cosine_declination))]
-fn cosine_declination(s: &Sun) -> Interval
+fn cosine_declination(s: &Sun, w: Interval) -> Interval
+    requires sine { ends w ≡ grid_sine_declination (terms_of s.now) }
+    requires small { 100 * reach (ends w) ≤ 178 * UNIT }
     ensures value { ends result ≡ grid_cosine_declination (terms_of s.now) }
     ensures bound { 100 * reach (ends result) ≤ 205 * UNIT }
 {
-    one_less_square(sine_declination(s)).root()
+    one_less_square(w).root()
+}
+
+pub(crate) fn declination_of(s: &Sun) -> Declination
+    ensures sine { ends result.sine ≡ grid_sine_declination (terms_of s.now) }
+    ensures cosine { ends result.cosine ≡ grid_cosine_declination (terms_of s.now) }
+{
+    let sine = sine_declination(s);
+    Declination {
+        sine,
+        cosine: cosine_declination(s, sine),
+    }
 }
 
 // A sine or cosine of the latitude times the cosine of d.
@@ -77,23 +96,23 @@ fn times_sine(a: Interval, sine_declination: Interval) -> Interval
 }
 
 // cos (φ - d).
-#[tactic(auto, unfolding(crate::specs::Asr::grid_noon_cosine))]
-pub(crate) fn noon_cosine(s: &Sun, p: Place) -> Interval
-    ensures value { ends result ≡ grid_noon_cosine (terms_of s.now) (box_of p) }
+pub(crate) fn noon_cosine(phi: Direction, d: Declination) -> Interval
+    ensures value { ends result ≡ grid_sum
+        (grid_product (ends phi.cosine) (ends d.cosine))
+        (grid_product (ends phi.sine) (ends d.sine)) }
     ensures bound { 100 * reach (ends result) ≤ 511 * UNIT }
 {
-    let phi = latitude(p);
-    let level = times_cosine(cosine(phi), cosine_declination(s));
-    level.sum(times_sine(sine(phi), sine_declination(s)))
+    let level = times_cosine(phi.cosine, d.cosine);
+    level.sum(times_sine(phi.sine, d.sine))
 }
 
 // sin (φ - d).
-#[tactic(auto, unfolding(crate::specs::Asr::grid_noon_sine))]
-pub(crate) fn noon_sine(s: &Sun, p: Place) -> Interval
-    ensures value { ends result ≡ grid_noon_sine (terms_of s.now) (box_of p) }
+pub(crate) fn noon_sine(phi: Direction, d: Declination) -> Interval
+    ensures value { ends result ≡ grid_difference
+        (grid_product (ends phi.sine) (ends d.cosine))
+        (grid_product (ends phi.cosine) (ends d.sine)) }
     ensures bound { 100 * reach (ends result) ≤ 511 * UNIT }
 {
-    let phi = latitude(p);
-    let north = times_cosine(sine(phi), cosine_declination(s));
-    north.difference(times_sine(cosine(phi), sine_declination(s)))
+    let north = times_cosine(phi.sine, d.cosine);
+    north.difference(times_sine(phi.cosine, d.sine))
 }

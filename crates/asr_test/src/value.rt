@@ -1,13 +1,13 @@
 // The Asr value.
 ghost use Rattle.std.specs.Prelude.{◌≡◌, ◌+◌, ◌*◌, ◌≤◌};
-ghost use Rattle.fixed_interval.specs.Grid.{UNIT, reach, grid_difference, grid_product, grid_signed_square};
+ghost use Rattle.fixed_interval.specs.Grid.{UNIT, reach, grid_sum, grid_difference, grid_product, grid_magnitude, grid_signed_square};
 ghost use Rattle.fixed_interval.specs.Interval.{ends};
 ghost use Rattle.solar_terms.specs.Sun.{minutes_of, terms_of};
 ghost use Rattle.altitude_test.specs.Values.{box_of};
-ghost use Rattle.asr_test.specs.Asr.{grid_one, grid_times_factor, grid_asr_shadow, grid_asr_value};
+ghost use Rattle.asr_test.specs.Asr.{grid_one, grid_times_factor, grid_asr_value};
 
-use crate::noon::{noon_cosine, noon_sine, one};
-use altitude_test::{Place, altitude_sine};
+use crate::noon::{declination_of, noon_cosine, noon_sine, one};
+use altitude_test::{Place, altitude_sine_at, latitude_direction};
 use fixed_interval::Interval;
 use solar_terms::{Minutes, Sun};
 
@@ -24,14 +24,15 @@ fn times_factor(factor: u8, a: Interval) -> Interval
 }
 
 // v = t · cos (φ - d) + |sin (φ - d)|.
-#[tactic(auto, unfolding(crate::specs::Asr::grid_asr_shadow))]
-fn asr_shadow(s: &Sun, p: Place, factor: u8) -> Interval
+fn asr_shadow(cosine: Interval, sine: Interval, factor: u8) -> Interval
     requires positive { 1 ≤ factor }
     requires at_most_2 { factor ≤ 2 }
-    ensures value { ends result ≡ grid_asr_shadow (terms_of s.now) (box_of p) factor }
+    requires cosine_small { 100 * reach (ends cosine) ≤ 511 * UNIT }
+    requires sine_small { 100 * reach (ends sine) ≤ 511 * UNIT }
+    ensures value { ends result ≡ grid_sum (grid_times_factor factor (ends cosine)) (grid_magnitude (ends sine)) }
     ensures bound { 100 * reach (ends result) ≤ 1533 * UNIT }
 {
-    times_factor(factor, noon_cosine(s, p)).sum(noon_sine(s, p).magnitude())
+    times_factor(factor, cosine).sum(sine.magnitude())
 }
 
 // S · S.
@@ -103,13 +104,16 @@ fn upright_part(sine: Interval, v: Interval) -> Interval
 
 /// The Asr value over the places `p` at the minutes `m`, whose sun is `s`, for the factor 1 or 2: above zero where
 /// the shadow is longer than `factor` times the object plus its shadow at noon, or the sun is below the horizon.
-#[tactic(auto, unfolding(crate::specs::Asr::grid_asr_value))]
+#[tactic(auto, unfolding(crate::specs::Asr::grid_noon_cosine, crate::specs::Asr::grid_noon_sine, crate::specs::Asr::grid_asr_shadow, crate::specs::Asr::grid_asr_value))]
 pub fn asr_value(s: &Sun, m: Minutes, p: Place, factor: u8) -> Interval
     requires positive { 1 ≤ factor }
     requires at_most_2 { factor ≤ 2 }
     ensures { ends result ≡ grid_asr_value (terms_of s.now) (minutes_of m) (box_of p) factor }
 {
-    let sine = altitude_sine(s, m, p);
-    let level = level_part(sine, noon_cosine(s, p));
-    level.difference(upright_part(sine, asr_shadow(s, p, factor)))
+    let phi = latitude_direction(p);
+    let d = declination_of(s);
+    let sine = altitude_sine_at(s, m, p, phi);
+    let cosine = noon_cosine(phi, d);
+    let shadow = asr_shadow(cosine, noon_sine(phi, d), factor);
+    level_part(sine, cosine).difference(upright_part(sine, shadow))
 }

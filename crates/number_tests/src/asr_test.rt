@@ -1,5 +1,5 @@
 // The Asr value against vectors that an independent program computed in whole numbers.
-use crate::asr_value;
+use asr_test::asr_value;
 use altitude_test::Place;
 use fixed_interval::Interval;
 use solar_terms::Minutes;

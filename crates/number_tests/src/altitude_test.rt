@@ -1,5 +1,5 @@
 // The values against vectors that an independent program computed in whole numbers.
-use crate::{Place, altitude_sine, altitude_value, meridian_value};
+use altitude_test::{Place, altitude_sine, altitude_value, meridian_value};
 use fixed_interval::Interval;
 use solar_terms::Minutes;
 use solar_terms::observatory::sun;
