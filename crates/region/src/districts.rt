@@ -98,6 +98,14 @@ impl District {
         })
     }
 
+    /// Every district keeps the rule of its type, however it was made: its polygons have no fault.
+    /// The call does nothing.
+    pub fn has_no_fault(&self)
+        ensures { first_fault self.now ≡ None }
+    {
+        let _kept = self.positions;
+    }
+
     /// Whether the place is in the district.
     pub fn contains(&self, p: Point) -> bool
         ensures { result ≡ is_in_district (place_of p) self.now }
