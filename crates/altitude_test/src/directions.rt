@@ -9,7 +9,7 @@ ghost use Rattle.altitude_test.specs.Values.{box_of, grid_latitude};
 use crate::Place;
 use crate::angles::latitude;
 use fixed_interval::Interval;
-use trig_series::{Angle, cosine, sine};
+use trig_series::{Angle, sine_and_cosine};
 
 /// The sine and the cosine of every angle of a range, each at most 4/3.
 #[derive(Clone, Copy)]
@@ -25,9 +25,10 @@ pub(crate) fn direction_of(a: Angle) -> Direction
     ensures sine { ends result.sine ≡ grid_sine (range_of a) }
     ensures cosine { ends result.cosine ≡ grid_cosine (range_of a) }
 {
+    let both = sine_and_cosine(a);
     Direction {
-        sine: sine(a),
-        cosine: cosine(a),
+        sine: both.sine,
+        cosine: both.cosine,
     }
 }
 

@@ -12,7 +12,7 @@ pub(crate) fn product_of_two(a: Interval, b: Interval) -> Interval
     ensures value { ends result ≡ grid_product (ends a) (ends b) }
     ensures bound { 100 * reach (ends result) ≤ 178 * UNIT }
 {
-    a.product(b)
+    a.narrow_product(b)
 }
 
 // The product of three, at most 64/27.
@@ -23,5 +23,5 @@ pub(crate) fn product_of_three(a: Interval, b: Interval, c: Interval) -> Interva
     ensures value { ends result ≡ grid_product (grid_product (ends a) (ends b)) (ends c) }
     ensures bound { 100 * reach (ends result) ≤ 238 * UNIT }
 {
-    product_of_two(a, b).product(c)
+    product_of_two(a, b).narrow_product(c)
 }

@@ -35,7 +35,7 @@ fn level_part(s: &Sun, phi: Direction, theta: Direction) -> Interval
         (grid_product (grid_product (ends theta.sine) (ends s.now.cos_e)) (ends s.now.sin_l))) }
     ensures bound { 100 * reach (ends result) ≤ 555 * UNIT }
 {
-    phi.cosine.product(toward_meridian(s, theta))
+    phi.cosine.narrow_product(toward_meridian(s, theta))
 }
 
 /// The sine of the sun's altitude over the places `p` at the minutes `m`, whose sun is `s`: at most 8.

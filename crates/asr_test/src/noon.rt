@@ -32,7 +32,7 @@ fn sine_declination(s: &Sun) -> Interval
     ensures value { ends result ≡ grid_sine_declination (terms_of s.now) }
     ensures bound { 100 * reach (ends result) ≤ 178 * UNIT }
 {
-    s.sin_e.product(s.sin_l)
+    s.sin_e.narrow_product(s.sin_l)
 }
 
 // sin d · sin d.
@@ -41,7 +41,7 @@ fn square_of_sine(w: Interval) -> Interval
     ensures value { ends result ≡ grid_product (ends w) (ends w) }
     ensures bound { 100 * reach (ends result) ≤ 317 * UNIT }
 {
-    w.product(w)
+    w.narrow_product(w)
 }
 
 // The argument of the root in cos d.
@@ -82,7 +82,7 @@ fn times_cosine(a: Interval, cosine_declination: Interval) -> Interval
     ensures value { ends result ≡ grid_product (ends a) (ends cosine_declination) }
     ensures bound { 1000 * reach (ends result) ≤ 2734 * UNIT }
 {
-    a.product(cosine_declination)
+    a.narrow_product(cosine_declination)
 }
 
 // A sine or cosine of the latitude times the sine of d.
@@ -92,7 +92,7 @@ fn times_sine(a: Interval, sine_declination: Interval) -> Interval
     ensures value { ends result ≡ grid_product (ends a) (ends sine_declination) }
     ensures bound { 1000 * reach (ends result) ≤ 2374 * UNIT }
 {
-    a.product(sine_declination)
+    a.narrow_product(sine_declination)
 }
 
 // cos (φ - d).

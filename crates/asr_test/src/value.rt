@@ -41,7 +41,7 @@ fn square_of_altitude(sine: Interval) -> Interval
     ensures value { ends result ≡ grid_product (ends sine) (ends sine) }
     ensures bound { reach (ends result) ≤ 65 * UNIT }
 {
-    sine.product(sine)
+    sine.narrow_product(sine)
 }
 
 // S|S|.
@@ -59,7 +59,7 @@ fn square_of_cosine(cz: Interval) -> Interval
     ensures value { ends result ≡ grid_product (ends cz) (ends cz) }
     ensures bound { 100 * reach (ends result) ≤ 2612 * UNIT }
 {
-    cz.product(cz)
+    cz.narrow_product(cz)
 }
 
 // v · v.
@@ -68,7 +68,7 @@ fn square_of_shadow(v: Interval) -> Interval
     ensures value { ends result ≡ grid_product (ends v) (ends v) }
     ensures bound { 100 * reach (ends result) ≤ 23510 * UNIT }
 {
-    v.product(v)
+    v.narrow_product(v)
 }
 
 // 1 - S · S.
@@ -89,7 +89,7 @@ fn level_part(sine: Interval, cz: Interval) -> Interval
         (grid_product (ends cz) (ends cz)) }
     ensures bound { reach (ends result) ≤ 1730 * UNIT }
 {
-    one_less_square(sine).product(square_of_cosine(cz))
+    one_less_square(sine).narrow_product(square_of_cosine(cz))
 }
 
 // S|S| · (v · v).

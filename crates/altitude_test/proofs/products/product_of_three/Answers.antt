@@ -1,14 +1,9 @@
 use Rattle.std.proofs.Common.{◌*◌, ◌/◌, arith}
-use Rattle.fixed_interval.specs.Grid.{UNIT, reach}
-use Rattle.fixed_interval.specs.Interval.{ends}
-use Rattle.solar_terms.proofs.Sizes.{product_fits, product_at_most}
+use Rattle.fixed_interval.specs.Grid.{UNIT}
+use Rattle.solar_terms.proofs.Sizes.{product_at_most}
 use Rattle.altitude_test.proofs.products.product_of_three.Goals as goal
-
-pub product-requires : goal.product-requires
-product-requires c =
-    product_fits (reach (ends c.product_of_two.result)) (reach (ends c.args.c)) (178 * UNIT / 100) (4 * UNIT / 3) (omega arith) (omega arith) (omega arith)
 
 pub returns-clause-bound : goal.returns-clause-bound
 returns-clause-bound c =
-    let h = product_at_most _ _ _ (178 * UNIT / 100) (4 * UNIT / 3) c.product.ensures.bound (omega arith) (omega arith) in
+    let h = product_at_most _ _ _ (178 * UNIT / 100) (4 * UNIT / 3) c.narrow_product.ensures.bound (omega arith) (omega arith) in
     omega (arith, h)

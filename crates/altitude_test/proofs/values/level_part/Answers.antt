@@ -5,5 +5,5 @@ use Rattle.altitude_test.proofs.values.level_part.Goals as goal
 
 pub returns-clause-bound : goal.returns-clause-bound
 returns-clause-bound c =
-    let h = product_at_most _ _ _ (4 * UNIT / 3) (416 * UNIT / 100) c.product.ensures.bound (omega arith) (omega arith) in
+    let h = product_at_most _ _ _ (4 * UNIT / 3) (416 * UNIT / 100) c.narrow_product.ensures.bound (omega arith) (omega arith) in
     omega (arith, h)

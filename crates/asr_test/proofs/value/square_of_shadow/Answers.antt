@@ -1,13 +1,8 @@
 use Rattle.std.proofs.Common.{◌*◌, ◌/◌, arith}
-use Rattle.fixed_interval.specs.Grid.{UNIT, reach}
-use Rattle.fixed_interval.specs.Interval.{ends}
-use Rattle.solar_terms.proofs.Sizes.{product_fits, product_at_most}
+use Rattle.fixed_interval.specs.Grid.{UNIT}
+use Rattle.solar_terms.proofs.Sizes.{product_at_most}
 use Rattle.asr_test.proofs.value.square_of_shadow.Goals as goal
-
-pub product-requires : goal.product-requires
-product-requires c =
-    product_fits (reach (ends c.args.v)) (reach (ends c.args.v)) (1533 * UNIT / 100) (1533 * UNIT / 100) (omega arith) (omega arith) (omega arith)
 
 pub returns-clause-bound : goal.returns-clause-bound
 returns-clause-bound c =
-    let h = product_at_most _ _ _ (1533 * UNIT / 100) (1533 * UNIT / 100) c.product.ensures.bound (omega arith) (omega arith) in omega (arith, h)
+    let h = product_at_most _ _ _ (1533 * UNIT / 100) (1533 * UNIT / 100) c.narrow_product.ensures.bound (omega arith) (omega arith) in omega (arith, h)
