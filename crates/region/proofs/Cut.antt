@@ -12,7 +12,7 @@ use Rattle.region.specs.Rings.{Polygon, polygon_edges, is_within, is_in_district
 use Rattle.region.specs.Named.{edge_point, first_point, corner, named}
 use Rattle.region.specs.Laws.{IsOrdered, misses_latitudes}
 use Rattle.region.specs.Views.{segment_of}
-use Rattle.region.specs.Strips.{StripView, IsStripOf, numbered, numbered_edges, reaches, top_of, strip_edges, NamesWithoutBeyond, is_in_some}
+use Rattle.region.specs.Strips.{BandView, IsBandOf, StripView, IsStripOf, numbered, numbered_edges, reaches, top_of, edges_between, strip_edges, NamesWithoutBeyond, is_in_some}
 use Rattle.region.proofs.Truth.{and_true, and_left, and_right, or_left, or_right, or_cases, is_lt, lt_true, lt_false}
 use Rattle.region.proofs.Odd.{odd_by, xor_assoc, xor_false, is_odd-count_by}
 use Rattle.region.proofs.Wholly.{off_apart, corner_ordered}
@@ -235,18 +235,25 @@ unreached low high box e g h k =
     was_true true h = refl
     was_true false h = cc
 
--- a strip's edges name what the district names
+-- the edges near a box's latitudes name what the district names
+pub band_named : (box : Box) (polygons : List Polygon) (low high : ℤ) → IsOrdered box → low ≤ℤ box.y0 → box.y1 ≤ℤ high
+    → option_or (first_point box (map (λ t. t.1) (edges_between low high polygons)))
+    (cond (is_in_some (corner box) 0 false (edges_between low high polygons)) (Some (corner box)) None)
+    ≡ named box polygons
+band_named box polygons low high ordered g h =
+    let keep = reaches low high in
+    ap (λ o. option_or o (cond (is_in_some (corner box) 0 false (edges_between low high polygons)) (Some (corner box)) None))
+    (ap (first_point box) (all_seconds keep 0 polygons ∙ sym (joined_groups keep polygons)))
+    ∙ ap (λ b. option_or (first_point box (flat_map (λ edges. edges) (groups keep polygons))) (cond b (Some (corner box)) None))
+    (scan_all (corner box) keep polygons)
+    ∙ names_without_beyond box polygons keep ordered (λ e k. unreached low high box e g h k)
+
+-- and so do a strip's
 pub strip_named : (box : Box) (polygons : List Polygon) (low : ℤ) → IsOrdered box → low ≤ℤ box.y0 → box.y1 ≤ℤ top_of low
     → option_or (first_point box (map (λ t. t.1) (strip_edges low polygons)))
     (cond (is_in_some (corner box) 0 false (strip_edges low polygons)) (Some (corner box)) None)
     ≡ named box polygons
-strip_named box polygons low ordered g h =
-    let keep = reaches low (top_of low) in
-    ap (λ o. option_or o (cond (is_in_some (corner box) 0 false (strip_edges low polygons)) (Some (corner box)) None))
-    (ap (first_point box) (all_seconds keep 0 polygons ∙ sym (joined_groups keep polygons)))
-    ∙ ap (λ b. option_or (first_point box (flat_map (λ edges. edges) (groups keep polygons))) (cond b (Some (corner box)) None))
-    (scan_all (corner box) keep polygons)
-    ∙ names_without_beyond box polygons keep ordered (λ e k. unreached low (top_of low) box e g h k)
+strip_named box polygons low ordered g h = band_named box polygons low (top_of low) ordered g h
 
 map-compose : {A B C : Type 0} (f : A → B) (g : B → C) (xs : List A) → map (λ x. g (f x)) xs ≡ map g (map f xs)
 map-compose f g [] = refl
@@ -257,3 +264,9 @@ pub strip_first : (polygons : List Polygon) (strip : StripView) → IsStripOf po
     → map segment_of strip.edges ≡ map (λ t. t.1) (strip_edges strip.low polygons)
 strip_first polygons strip is =
     map-compose numbered (λ (t : ℕ × Segment). t.1) strip.edges ∙ ap (map (λ (t : ℕ × Segment). t.1)) is.edges_are
+
+-- the same of a band
+pub band_first : (polygons : List Polygon) (band : BandView) → IsBandOf polygons band
+    → map segment_of band.edges ≡ map (λ t. t.1) (edges_between band.low band.high polygons)
+band_first polygons band is =
+    map-compose numbered (λ (t : ℕ × Segment). t.1) band.edges ∙ ap (map (λ (t : ℕ × Segment). t.1)) is.edges_are

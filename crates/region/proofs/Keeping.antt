@@ -9,83 +9,85 @@ use Rattle.region.specs.Plane.{Segment}
 use Rattle.region.specs.Rings.{Position, Ring, Polygon, edge_between, edges_from, polygon_edges}
 use Rattle.region.specs.Extent.{is_short_from}
 use Rattle.region.specs.Views.{segment_of}
-use Rattle.region.specs.Strips.{StripView, IsStripOf, AreStripsOf, numbered_edges, reaches, top_of, strip_edges, numbered, kept, kept_from}
+use Rattle.region.specs.Strips.{StripView, IsStripOf, AreStripsOf, numbered_edges, reaches, top_of, edges_between, strip_edges, numbered, kept, kept_from}
 use Rattle.region.proofs.Along.{short_rest}
 use Rattle.region.proofs.Cut.{filter-append, parts}
 
-pub record KeptAlong (n : ℕ) (low : ℤ) (before : List Edge) (first : Position) (all : Ring) (now : List Edge) (previous : Position) (left : Ring) : Type 0 where
+pub record KeptAlong (n : ℕ) (low high : ℤ) (before : List Edge) (first : Position) (all : Ring) (now : List Edge) (previous : Position) (left : Ring) : Type 0 where
   pub short : is_short_from previous left ≡ true
-  pub kept_is : map numbered now ++ kept n low (edges_from previous left) ≡ map numbered before ++ kept n low (edges_from first all)
+  pub kept_is : map numbered now ++ kept n low high (edges_from previous left) ≡ map numbered before ++ kept n low high (edges_from first all)
 
-pub kept-append : (n : ℕ) (low : ℤ) (xs ys : List Segment) → kept n low (xs ++ ys) ≡ kept n low xs ++ kept n low ys
-kept-append n low xs ys =
-    ap (map (λ e. (n, e))) (filter-append (reaches low (top_of low)) xs ys)
-    ∙ map-append (λ e. (n, e)) (filter (reaches low (top_of low)) xs) (filter (reaches low (top_of low)) ys)
+pub kept-append : (n : ℕ) (low high : ℤ) (xs ys : List Segment) → kept n low high (xs ++ ys) ≡ kept n low high xs ++ kept n low high ys
+kept-append n low high xs ys =
+    ap (map (λ e. (n, e))) (filter-append (reaches low high) xs ys)
+    ∙ map-append (λ e. (n, e)) (filter (reaches low high) xs) (filter (reaches low high) ys)
 
 -- one more part is kept
-pub keep_more : (n : ℕ) (low : ℤ) (now next : List Edge) (xs ys : List Segment) (all : List (ℕ × Segment))
-    → map numbered next ≡ map numbered now ++ kept n low xs
-    → map numbered now ++ kept n low (xs ++ ys) ≡ all
-    → map numbered next ++ kept n low ys ≡ all
-keep_more n low now next xs ys all h k =
-    ap (λ zs. zs ++ kept n low ys) h
-    ∙ append_assoc (map numbered now) (kept n low xs) (kept n low ys)
-    ∙ ap (λ zs. map numbered now ++ zs) (sym (kept-append n low xs ys))
+pub keep_more : (n : ℕ) (low high : ℤ) (now next : List Edge) (xs ys : List Segment) (all : List (ℕ × Segment))
+    → map numbered next ≡ map numbered now ++ kept n low high xs
+    → map numbered now ++ kept n low high (xs ++ ys) ≡ all
+    → map numbered next ++ kept n low high ys ≡ all
+keep_more n low high now next xs ys all h k =
+    ap (λ zs. zs ++ kept n low high ys) h
+    ∙ append_assoc (map numbered now) (kept n low high xs) (kept n low high ys)
+    ∙ ap (λ zs. map numbered now ++ zs) (sym (kept-append n low high xs ys))
     ∙ k
 
-pub keep_polygon : (n : ℕ) (low : ℤ) (now next : List Edge) (rings : Polygon) (rest : List Polygon) (all : List (ℕ × Segment))
-    → map numbered next ≡ map numbered now ++ kept n low (polygon_edges rings)
-    → map numbered now ++ kept_from n low (rings ∷ rest) ≡ all
-    → map numbered next ++ kept_from (n + 1) low rest ≡ all
-keep_polygon n low now next rings rest all h k =
-    ap (λ zs. zs ++ kept_from (n + 1) low rest) h
-    ∙ append_assoc (map numbered now) (kept n low (polygon_edges rings)) (kept_from (n + 1) low rest)
+pub keep_polygon : (n : ℕ) (low high : ℤ) (now next : List Edge) (rings : Polygon) (rest : List Polygon) (all : List (ℕ × Segment))
+    → map numbered next ≡ map numbered now ++ kept n low high (polygon_edges rings)
+    → map numbered now ++ kept_from n low high (rings ∷ rest) ≡ all
+    → map numbered next ++ kept_from (n + 1) low high rest ≡ all
+keep_polygon n low high now next rings rest all h k =
+    ap (λ zs. zs ++ kept_from (n + 1) low high rest) h
+    ∙ append_assoc (map numbered now) (kept n low high (polygon_edges rings)) (kept_from (n + 1) low high rest)
     ∙ k
 
-pub kept_from_is : (n : ℕ) (low : ℤ) (polygons : List Polygon)
-    → kept_from n low polygons ≡ filter (λ t. reaches low (top_of low) t.1) (numbered_edges n polygons)
-kept_from_is n low [] = refl
-kept_from_is n low (rings ∷ rest) =
-    ap (λ zs. kept n low (polygon_edges rings) ++ zs) (kept_from_is (n + 1) low rest)
-    ∙ sym (parts (reaches low (top_of low)) n rings rest)
+pub kept_from_is : (n : ℕ) (low high : ℤ) (polygons : List Polygon)
+    → kept_from n low high polygons ≡ filter (λ t. reaches low high t.1) (numbered_edges n polygons)
+kept_from_is n low high [] = refl
+kept_from_is n low high (rings ∷ rest) =
+    ap (λ zs. kept n low high (polygon_edges rings) ++ zs) (kept_from_is (n + 1) low high rest)
+    ∙ sym (parts (reaches low high) n rings rest)
 
 -- an edge that reaches the strip
-pub keep_one : (before : List Edge) (e : Edge) (low : ℤ) → reaches low (top_of low) (segment_of e) ≡ true
-    → map numbered (before ++ e ∷ []) ≡ map numbered before ++ kept e.polygon low (segment_of e ∷ [])
-keep_one before e low h =
+pub keep_one : (before : List Edge) (e : Edge) (low high : ℤ) → reaches low high (segment_of e) ≡ true
+    → map numbered (before ++ e ∷ []) ≡ map numbered before ++ kept e.polygon low high (segment_of e ∷ [])
+keep_one before e low high h =
     map-append numbered before (e ∷ [])
     ∙ ap (λ b. map numbered before ++ map (λ s. (e.polygon, s)) (cond b (segment_of e ∷ []) [])) (sym h)
 
 -- an edge that is kept, by the places that it joins
-pub keep_joined : (m n : ℕ) (low : ℤ) (now next : List Edge) (s t : Segment)
-    → map numbered next ≡ map numbered now ++ kept m low (s ∷ []) → s ≡ t → m ≡ n
-    → map numbered next ≡ map numbered now ++ kept n low (t ∷ [])
-keep_joined m n low now next s t h e f =
-    h ∙ ap (λ (u : Segment). map numbered now ++ kept m low (u ∷ [])) e
-    ∙ ap (λ (k : ℕ). map numbered now ++ kept k low (t ∷ [])) f
+pub keep_joined : (m n : ℕ) (low high : ℤ) (now next : List Edge) (s t : Segment)
+    → map numbered next ≡ map numbered now ++ kept m low high (s ∷ []) → s ≡ t → m ≡ n
+    → map numbered next ≡ map numbered now ++ kept n low high (t ∷ [])
+keep_joined m n low high now next s t h e f =
+    h ∙ ap (λ (u : Segment). map numbered now ++ kept m low high (u ∷ [])) e
+    ∙ ap (λ (k : ℕ). map numbered now ++ kept k low high (t ∷ [])) f
 
 -- one more edge of a ring
-pub kept_along_more : (n : ℕ) (low : ℤ) (before : List Edge) (first : Position) (all : Ring) (now next : List Edge) (p q : Position) (rest : Ring)
-    → KeptAlong n low before first all now p (q ∷ rest)
-    → map numbered next ≡ map numbered now ++ kept n low (edge_between p q ∷ [])
-    → KeptAlong n low before first all next q rest
-kept_along_more n low before first all now next p q rest k h = record {
+pub kept_along_more : (n : ℕ) (low high : ℤ) (before : List Edge) (first : Position) (all : Ring) (now next : List Edge) (p q : Position) (rest : Ring)
+    → KeptAlong n low high before first all now p (q ∷ rest)
+    → map numbered next ≡ map numbered now ++ kept n low high (edge_between p q ∷ [])
+    → KeptAlong n low high before first all next q rest
+kept_along_more n low high before first all now next p q rest k h = record {
   short = short_rest p q rest k.short;
-  kept_is = keep_more n low now next (edge_between p q ∷ []) (edges_from q rest) _ h k.kept_is;
+  kept_is = keep_more n low high now next (edge_between p q ∷ []) (edges_from q rest) _ h k.kept_is;
 }
 
 -- the strip that is made
-pub strip_done : (polygons : List Polygon) (strip : StripView) (low : ℤ) (edges : List Edge) (n : ℕ)
-    → strip.low ≡ low → strip.edges ≡ edges
-    → map numbered edges ++ kept_from n low [] ≡ kept_from 0 low polygons
+pub strip_done : (polygons : List Polygon) (strip : StripView) (low : ℤ) (edges : List Edge)
+    → strip.low ≡ low → strip.edges ≡ edges → map numbered edges ≡ edges_between low (top_of low) polygons
     → (strip.low ≡ low) × IsStripOf polygons strip
-strip_done polygons strip low edges n h k q = (
+strip_done polygons strip low edges h k are = (
   h,
-  record {
-    edges_are = ap (map numbered) k ∙ sym (append-nil (map numbered edges)) ∙ q ∙ kept_from_is 0 low polygons
-        ∙ ap (λ z. strip_edges z polygons) (sym h);
-  },
+  record { edges_are = ap (map numbered) k ∙ are ∙ ap (λ z. strip_edges z polygons) (sym h) },
 )
+
+-- all edges that are kept
+pub edges_done : (polygons : List Polygon) (low high : ℤ) (edges : List Edge) (n : ℕ)
+    → map numbered edges ++ kept_from n low high [] ≡ kept_from 0 low high polygons
+    → map numbered edges ≡ edges_between low high polygons
+edges_done polygons low high edges n q = sym (append-nil (map numbered edges)) ∙ q ∙ kept_from_is 0 low high polygons
 
 -- one more strip
 pub strips_more : (polygons : List Polygon) (south : ℤ) (list : List StripView) (strip : StripView) (i : ℕ)

@@ -33,9 +33,10 @@ first_fault polygons =
     else None)
 
 -- what a district knows of its polygons
-pub record IsSurveyed (polygons : List Polygon) (west east south : ℤ) (positions : ℕ) : Type 0 where
+pub record IsSurveyed (polygons : List Polygon) (west east south north : ℤ) (positions : ℕ) : Type 0 where
   pub sound : first_fault polygons ≡ None
   pub west_is : west ≡ least (longitudes polygons)
   pub east_is : east ≡ greatest (longitudes polygons)
   pub south_is : south ≡ least (latitudes polygons)
+  pub north_is : north ≡ greatest (latitudes polygons)
   pub positions_is : positions ≡ length (positions_of polygons)

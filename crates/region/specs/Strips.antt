@@ -22,9 +22,13 @@ reaches low high e = not ((int_lt e.ya low && int_lt e.yb low) || (int_lt high e
 abbrev pub top_of : ℤ → ℤ
 top_of low = low +ℤ pos (2 ^ 23)
 
+-- the edges that reach the latitudes from low to high
+abbrev pub edges_between : ℤ → ℤ → List Polygon → List (ℕ × Segment)
+edges_between low high polygons = filter (λ t. reaches low high t.1) (numbered_edges 0 polygons)
+
 -- the edges of the strip that begins at low
 abbrev pub strip_edges : ℤ → List Polygon → List (ℕ × Segment)
-strip_edges low polygons = filter (λ t. reaches low (top_of low) t.1) (numbered_edges 0 polygons)
+strip_edges low polygons = edges_between low (top_of low) polygons
 
 -- a strip's lower end and its edges
 pub record StripView : Type 0 where
@@ -37,6 +41,16 @@ numbered e = (e.polygon, segment_of e)
 -- the strip holds exactly the district's edges that reach it, in their order
 pub record IsStripOf (polygons : List Polygon) (strip : StripView) : Type 0 where
   pub edges_are : map numbered strip.edges ≡ strip_edges strip.low polygons
+
+-- a band's lower and upper end and its edges
+pub record BandView : Type 0 where
+  pub low : ℤ
+  pub high : ℤ
+  pub edges : List Edge
+
+-- the band holds exactly the district's edges that reach it, in their order
+pub record IsBandOf (polygons : List Polygon) (band : BandView) : Type 0 where
+  pub edges_are : map numbered band.edges ≡ edges_between band.low band.high polygons
 
 -- 64 strips, one on another
 pub record AreStripsOf (polygons : List Polygon) (south : ℤ) (strips : List StripView) : Type 0 where
@@ -65,13 +79,13 @@ is_in_some p n odd (t ∷ rest) =
     then is_on p t.1 || is_in_some p n (xor odd (crosses p t.1)) rest
     else odd || (is_on p t.1 || is_in_some p t.0 (crosses p t.1) rest)
 
--- ---- a strip as it is made
+-- ---- edges as they are kept
 
--- those of a polygon's edges that reach the strip
-abbrev pub kept : ℕ → ℤ → List Segment → List (ℕ × Segment)
-kept n low edges = map (λ e. (n, e)) (filter (reaches low (top_of low)) edges)
+-- those of a polygon's edges that reach the latitudes from low to high
+abbrev pub kept : ℕ → ℤ → ℤ → List Segment → List (ℕ × Segment)
+kept n low high edges = map (λ e. (n, e)) (filter (reaches low high) edges)
 
 -- the same of all polygons, counted from n
-abbrev pub kept_from : ℕ → ℤ → List Polygon → List (ℕ × Segment)
-kept_from n low [] = []
-kept_from n low (rings ∷ rest) = kept n low (polygon_edges rings) ++ kept_from (n + 1) low rest
+abbrev pub kept_from : ℕ → ℤ → ℤ → List Polygon → List (ℕ × Segment)
+kept_from n low high [] = []
+kept_from n low high (rings ∷ rest) = kept n low high (polygon_edges rings) ++ kept_from (n + 1) low high rest

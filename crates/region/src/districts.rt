@@ -3,7 +3,7 @@ ghost use Rattle.std.specs.Prelude.{◌≡◌, ℤ, List, length, slice_get, sli
 ghost use Rattle.std.specs.List.{list_all};
 ghost use Rattle.std.specs.Option.{option_map};
 ghost use Rattle.region.specs.Magnitude.{IsWithin};
-ghost use Rattle.region.specs.Strips.{AreStripsOf};
+ghost use Rattle.region.specs.Strips.{AreStripsOf, IsBandOf};
 ghost use Rattle.region.specs.Plane.{Place, IsIn};
 ghost use Rattle.region.specs.Rings.{is_in_district};
 ghost use Rattle.region.specs.Named.{named};
@@ -12,6 +12,7 @@ ghost use Rattle.region.specs.Faults.{first_fault, IsSurveyed};
 ghost use Rattle.region.specs.Vectors.{rings_in, polygons_in};
 ghost use Rattle.region.specs.Views.{place_of, box_of};
 
+use crate::bands::{Band, band_of};
 use crate::faults::RegionFault;
 use crate::points::Point;
 use crate::polygons::{Polygon, any_contains, first_point};
@@ -35,6 +36,7 @@ pub struct District {
     west: i64,
     east: i64,
     south: i64,
+    north: i64,
     positions: u32,
 }
 
@@ -43,7 +45,7 @@ impl Model for District {
 
     ghost view = { λ d. d.polygons.items };
 
-    ghost invariant = { λ d. IsSurveyed d.polygons.items d.west d.east d.south d.positions };
+    ghost invariant = { λ d. IsSurveyed d.polygons.items d.west d.east d.south d.north d.positions };
 }
 
 // The rings, each with its one list of positions.
@@ -94,6 +96,7 @@ impl District {
             west: survey.west,
             east: survey.east,
             south: survey.south,
+            north: survey.north,
             positions: survey.positions,
         })
     }
@@ -148,6 +151,18 @@ impl District {
         }
     }
 
+    /// The district's edges that reach the latitudes from `low` to `high`, in place units.
+    pub fn band(&self, alloc: Global, low: i64, high: i64) -> Result<Band, NoMemory>
+        ensures low { IfOk result (λ band. band.low ≡ low) }
+        ensures high { IfOk result (λ band. band.high ≡ high) }
+        ensures band { IfOk result (IsBandOf self.now) }
+    {
+        match band_of(alloc, self.polygons.as_slice(), low, high) {
+            Ok(band) => Ok(band),
+            Err(_) => Err(NoMemory),
+        }
+    }
+
     /// The least longitude, in microdegrees.
     pub fn west(&self) -> i64
         ensures { result ≡ least (longitudes self.now) }
@@ -167,6 +182,13 @@ impl District {
         ensures { result ≡ least (latitudes self.now) }
     {
         self.south
+    }
+
+    /// The greatest latitude, in microdegrees.
+    pub fn north(&self) -> i64
+        ensures { result ≡ greatest (latitudes self.now) }
+    {
+        self.north
     }
 
     /// How many positions all rings have together.

@@ -1,15 +1,11 @@
-// The edges that are kept in a strip of latitude.
-ghost use Rattle.std.specs.Prelude.{◌≡◌, pos, [], ◌∷◌, ◌++◌, map, OnOk, not, ◌||◌};
-ghost use Rattle.region.specs.Magnitude.{IsWithin};
-ghost use Rattle.region.specs.Strips.{reaches, top_of, numbered, kept};
+// The edges that are kept of those near some latitudes.
+ghost use Rattle.std.specs.Prelude.{◌≡◌, [], ◌∷◌, ◌++◌, map, OnOk, not, ◌||◌};
+ghost use Rattle.region.specs.Strips.{reaches, numbered, kept};
 ghost use Rattle.region.specs.Views.{segment_of};
 
 use crate::edge_points::{are_above, are_below};
 use crate::edges::Edge;
 use std::alloc::AllocError;
-
-/// A strip's height, 2^23 place units.
-const HEIGHT: i64 = 8_388_608;
 
 fn neither(a: bool, b: bool) -> bool
     ensures { result ≡ not (a || b) }
@@ -17,32 +13,27 @@ fn neither(a: bool, b: bool) -> bool
     !(a || b)
 }
 
-// The upper end of the strip that begins at `low`.
-fn top_of(low: i64) -> i64
-    requires { IsWithin (pos 47_000_000_000) low }
-    ensures { result ≡ top_of low }
-{
-    low + HEIGHT
-}
-
-// The edge's closed range of latitudes meets the strip's that begins at `low`.
-fn reaches(edge: &Edge, low: i64) -> bool
-    requires { IsWithin (pos 47_000_000_000) low }
-    ensures { result ≡ reaches low (top_of low) (segment_of edge.now) }
+// The edge's closed range of latitudes meets that from `low` to `high`.
+fn reaches(edge: &Edge, low: i64, high: i64) -> bool
+    ensures { result ≡ reaches low high (segment_of edge.now) }
 {
     neither(
         are_below(edge.ya, edge.yb, low),
-        are_above(edge.ya, edge.yb, top_of(low)),
+        are_above(edge.ya, edge.yb, high),
     )
 }
 
-/// Adds the edge, if it reaches the strip that begins at `low`.
-pub(crate) fn keep_edge(edges: &mut Vec<Edge>, edge: Edge, low: i64) -> Result<(), AllocError>
-    requires { IsWithin (pos 47_000_000_000) low }
+/// Adds the edge, if it reaches the latitudes from `low` to `high`.
+pub(crate) fn keep_edge(
+    edges: &mut Vec<Edge>,
+    edge: Edge,
+    low: i64,
+    high: i64,
+) -> Result<(), AllocError>
     ensures { OnOk result (map numbered edges.new.items
-        ≡ map numbered edges.old.items ++ kept edge.polygon low (segment_of edge ∷ [])) }
+        ≡ map numbered edges.old.items ++ kept edge.polygon low high (segment_of edge ∷ [])) }
 {
-    if reaches(&edge, low) {
+    if reaches(&edge, low, high) {
         edges.push(edge)?;
     }
     Ok(())

@@ -2,6 +2,7 @@
 // Contract: a place is in a district exactly by the even-odd rule, and a box is met exactly where one of its places is.
 #![tactic(auto)]
 
+mod bands;
 mod bounds;
 #[cfg(test)]
 mod cases;
@@ -25,6 +26,7 @@ mod surveys;
 mod tests;
 mod touches;
 
+pub use bands::Band;
 pub use districts::District;
 pub use edges::Edge;
 pub use faults::RegionFault;

@@ -1,7 +1,6 @@
 // A polygon: its rings together, by the even-odd rule.
-ghost use Rattle.std.specs.Prelude.{◌≡◌, ℤ, List, length, slice_get, count_by, ◌<◌, pos, map, ◌++◌, OnOk};
-ghost use Rattle.region.specs.Magnitude.{IsWithin};
-ghost use Rattle.region.specs.Strips.{numbered, kept};
+ghost use Rattle.std.specs.Prelude.{◌≡◌, ℤ, List, length, slice_get, count_by, ◌<◌, ◌^◌, map, ◌++◌, IfOk, OnOk};
+ghost use Rattle.region.specs.Strips.{edges_between, numbered, kept};
 ghost use Rattle.std.specs.List.{list_any, flat_map};
 ghost use Rattle.std.specs.Option.{option_map};
 ghost use Rattle.region.specs.Plane.{is_on, crosses};
@@ -14,7 +13,7 @@ use crate::points::Point;
 use crate::rects::Rect;
 use crate::rings::Ring;
 use crate::touches::Touch;
-use std::alloc::AllocError;
+use std::alloc::{AllocError, Global};
 use std::marker::Model;
 
 /// The rings of a polygon, the outer one and its holes.
@@ -59,13 +58,13 @@ fn keep_rings(
     rings: &[Ring],
     polygon: u32,
     low: i64,
+    high: i64,
 ) -> Result<(), AllocError>
-    requires { IsWithin (pos 47_000_000_000) low }
     ensures { OnOk result (map numbered edges.new.items
-        ≡ map numbered edges.old.items ++ kept polygon low (polygon_edges rings.now)) }
+        ≡ map numbered edges.old.items ++ kept polygon low high (polygon_edges rings.now)) }
 {
     for ring in rings {
-        ring.keep_edges(edges, polygon, low)?;
+        ring.keep_edges(edges, polygon, low, high)?;
     }
     Ok(())
 }
@@ -97,18 +96,18 @@ impl Polygon {
         touch.on || touch.odd
     }
 
-    /// Adds the polygon's edges that reach the strip which begins at `low`.
+    /// Adds the polygon's edges that reach the latitudes from `low` to `high`.
     pub(crate) fn keep_edges(
         &self,
         edges: &mut Vec<Edge>,
         polygon: u32,
         low: i64,
+        high: i64,
     ) -> Result<(), AllocError>
-        requires { IsWithin (pos 47_000_000_000) low }
         ensures { OnOk result (map numbered edges.new.items
-            ≡ map numbered edges.old.items ++ kept polygon low (polygon_edges self.now)) }
+            ≡ map numbered edges.old.items ++ kept polygon low high (polygon_edges self.now)) }
     {
-        keep_rings(edges, self.rings.as_slice(), polygon, low)
+        keep_rings(edges, self.rings.as_slice(), polygon, low, high)
     }
 
     pub(crate) fn point_in(&self, r: &Rect) -> Option<Point>
@@ -140,4 +139,23 @@ pub(crate) fn first_point(polygons: &[Polygon], r: &Rect) -> Option<Point>
         }
     }
     None
+}
+
+/// The polygons' edges that reach the latitudes from `low` to `high`.
+pub(crate) fn edges_between(
+    alloc: Global,
+    polygons: &[Polygon],
+    low: i64,
+    high: i64,
+) -> Result<Vec<Edge>, AllocError>
+    requires { length polygons.now < 2 ^ 32 }
+    ensures { IfOk result (λ edges. map numbered edges.items ≡ edges_between low high polygons.now) }
+{
+    let mut edges = Vec::new(alloc);
+    let mut number = 0;
+    for polygon in polygons {
+        polygon.keep_edges(&mut edges, number, low, high)?;
+        number += 1;
+    }
+    Ok(edges)
 }

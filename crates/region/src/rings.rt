@@ -1,6 +1,5 @@
 // A polygon's ring: its positions, and its edges in place units.
-ghost use Rattle.std.specs.Prelude.{◌≡◌, ℤ, List, length, slice_get, IsTrue, IsFalse, count_by, ◌<◌, pos, map, ◌++◌, OnOk};
-ghost use Rattle.region.specs.Magnitude.{IsWithin};
+ghost use Rattle.std.specs.Prelude.{◌≡◌, ℤ, List, length, slice_get, IsTrue, IsFalse, count_by, ◌<◌, map, ◌++◌, OnOk};
 ghost use Rattle.region.specs.Strips.{numbered, kept};
 ghost use Rattle.std.specs.List.{list_any};
 ghost use Rattle.std.specs.Option.{option_map};
@@ -87,15 +86,15 @@ fn keep_along(
     rest: &[(i64, i64)],
     polygon: u32,
     low: i64,
+    high: i64,
 ) -> Result<(), AllocError>
-    requires short { IsTrue (is_short_from first rest.now) }
-    requires low { IsWithin (pos 47_000_000_000) low }
+    requires { IsTrue (is_short_from first rest.now) }
     ensures { OnOk result (map numbered edges.new.items
-        ≡ map numbered edges.old.items ++ kept polygon low (edges_from first rest.now)) }
+        ≡ map numbered edges.old.items ++ kept polygon low high (edges_from first rest.now)) }
 {
     let mut previous = first;
     for next in rest {
-        keep_edge(edges, edge_between(previous, *next, polygon), low)?;
+        keep_edge(edges, edge_between(previous, *next, polygon), low, high)?;
         previous = *next;
     }
     Ok(())
@@ -136,19 +135,19 @@ impl Ring {
         }
     }
 
-    /// Adds the ring's edges that reach the strip which begins at `low`.
+    /// Adds the ring's edges that reach the latitudes from `low` to `high`.
     pub(crate) fn keep_edges(
         &self,
         edges: &mut Vec<Edge>,
         polygon: u32,
         low: i64,
+        high: i64,
     ) -> Result<(), AllocError>
-        requires { IsWithin (pos 47_000_000_000) low }
         ensures { OnOk result (map numbered edges.new.items
-            ≡ map numbered edges.old.items ++ kept polygon low (ring_edges self.now)) }
+            ≡ map numbered edges.old.items ++ kept polygon low high (ring_edges self.now)) }
     {
         match self.positions.split_first() {
-            Some((first, rest)) => keep_along(edges, *first, rest, polygon, low),
+            Some((first, rest)) => keep_along(edges, *first, rest, polygon, low, high),
             None => Ok(()),
         }
     }

@@ -10,11 +10,14 @@ ghost use Rattle.region.specs.Views.{place_of, box_of, segment_of};
 use crate::edge_points::edge_point;
 use crate::edges::Edge;
 use crate::points::Point;
-use crate::polygons::Polygon;
+use crate::polygons::{Polygon, edges_between};
 use crate::rects::Rect;
 use crate::touches::edge_touch;
 use std::alloc::{AllocError, Global};
 use std::marker::Model;
+
+/// A strip's height, 2^23 place units.
+const HEIGHT: i64 = 8_388_608;
 
 /// The edges of a district whose closed range of latitudes meets the strip's, which is 2^23 place
 /// units high, in the order of polygons, rings and positions.
@@ -30,8 +33,8 @@ impl Model for Strip {
     ghost view = { λ s. record { low = s.low; edges = s.edges.items } };
 }
 
-// Where the edges first meet a box.
-fn first_of(edges: &[Edge], r: &Rect) -> Option<Point>
+/// Where the edges first meet a box.
+pub(crate) fn first_of(edges: &[Edge], r: &Rect) -> Option<Point>
     ensures { option_map place_of result ≡ first_point (box_of r.now) (map segment_of edges.now) }
 {
     for edge in edges {
@@ -56,8 +59,8 @@ fn next_odd(same: bool, odd: bool, crossed: bool) -> bool
     if same { odd != crossed } else { crossed }
 }
 
-// Whether the place is in a polygon of which these are the edges that matter to it.
-fn any_around(edges: &[Edge], p: &Point) -> bool
+/// Whether the place is in a polygon of which these are the edges that matter to it.
+pub(crate) fn any_around(edges: &[Edge], p: &Point) -> bool
     ensures { result ≡ is_in_some (place_of p.now) 0 false (map numbered edges.now) }
 {
     let mut polygon = 0;
@@ -153,18 +156,21 @@ impl Strips {
     }
 }
 
+// The upper end of the strip that begins at `low`.
+fn top_of(low: i64) -> i64
+    requires { IsWithin (pos 47_000_000_000) low }
+    ensures { result ≡ top_of low }
+{
+    low + HEIGHT
+}
+
 // The strip that begins at `low`.
 fn strip_of(alloc: Global, polygons: &[Polygon], low: i64) -> Result<Strip, AllocError>
     requires few { length polygons.now < 2 ^ 32 }
     requires low { IsWithin (pos 47_000_000_000) low }
     ensures { IfOk result (λ strip. (strip.low ≡ low) × IsStripOf polygons.now strip) }
 {
-    let mut edges = Vec::new(alloc);
-    let mut number = 0;
-    for polygon in polygons {
-        polygon.keep_edges(&mut edges, number, low)?;
-        number += 1;
-    }
+    let edges = edges_between(alloc, polygons, low, top_of(low))?;
     Ok(Strip::new(low, edges))
 }
 

@@ -15,13 +15,14 @@ pub(crate) struct Survey {
     pub(crate) west: i64,
     pub(crate) east: i64,
     pub(crate) south: i64,
+    pub(crate) north: i64,
     pub(crate) positions: u32,
 }
 
 /// The survey of the polygons, or their first fault.
 pub(crate) fn survey_of(polygons: &[Vec<Vec<(i64, i64)>>]) -> Result<Survey, RegionFault>
     ensures { MatchResult result
-        (λ s. IsSurveyed (polygons_in polygons.now) s.west s.east s.south s.positions)
+        (λ s. IsSurveyed (polygons_in polygons.now) s.west s.east s.south s.north s.positions)
         (λ fault. first_fault (polygons_in polygons.now) ≡ Some fault) }
 {
     if lacks_ring(polygons) {
@@ -46,6 +47,7 @@ pub(crate) fn survey_of(polygons: &[Vec<Vec<(i64, i64)>>]) -> Result<Survey, Reg
         west: bounds.west,
         east: bounds.east,
         south: bounds.south,
+        north: bounds.north,
         positions: (MOST_POSITIONS - left) as u32,
     })
 }

@@ -8,8 +8,7 @@ returns c =
     let ya : FitsSigned w64 c.args.edge.now.ya = search rules in
     let yb : FitsSigned w64 c.args.edge.now.yb = search rules in
     let low : FitsSigned w64 c.args.low = c.ranges.low in
-    let top : FitsSigned w64 c.top_of.result = search rules in
+    let high : FitsSigned w64 c.args.high = c.ranges.high in
     let a = simp to_z-of_z at c.are_below.ensures in
-    let t = simp to_z-of_z at c.top_of.ensures in
     let b = simp to_z-of_z at c.are_above.ensures in
-    rw (a, b, t) at c.neither.ensures
+    rw (a, b) at c.neither.ensures
