@@ -11,4 +11,6 @@ pub mod TruthLemmas
 pub mod VerdictLemmas
 pub mod StripLemmas
 pub mod TileLemmas
+pub mod TableLemmas
+pub mod BeyondLemmas
 pub mod DayLaws

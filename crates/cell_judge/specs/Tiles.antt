@@ -1,43 +1,57 @@
--- The large boxes of a root, of the sizes from 24 to 29. Those of one size tile the root's box, row by row from its south-west
--- corner.
-use Rattle.std.specs.Prelude.{◌≡◌, ℕ, ◌+◌, ◌-◌, ◌*◌, ◌/◌, ◌%◌, ◌^◌, ◌≤◌, ◌<◌, pos, ◌+ℤ◌, List, length, Option, slice_index_or}
+-- The large boxes of a root, in columns from its west side and rows from its south side. Those that begin within a
+-- district's reach are asked once for the place that is named for them.
+use Rattle.std.specs.Prelude.{◌≡◌, ℕ, ◌+◌, ◌-◌, ◌*◌, ◌/◌, ◌^◌, min, pos, ◌+ℤ◌, ◌-ℤ◌, ◌*ℤ◌, unsigned_abs, List, length, Option, Some}
+use Rattle.std.specs.List.{slice_get}
 use Rattle.std.specs.Option.{option_map}
 use Rattle.std.specs.declared.vec.Vec.{Vec}
 use Rattle.region.specs.declared.points.Point.{Point}
+use Rattle.region.specs.Extent.{latitudes, longitudes, greatest}
 use Rattle.region.specs.Rings.{Polygon}
 use Rattle.region.specs.Named.{named}
 use Rattle.region.specs.Views.{place_of}
 use Rattle.cell_split.specs.declared.cell.Cell.{Cell}
 use Rattle.cell_split.specs.Laws.{box_of}
 
--- how many tiles of this size there are to a row
-abbrev pub parts : ℕ → ℕ
-parts size = 2 ^ (29 - size)
+-- how far a district reaches from the root's corner, to the east and to the north, short of the root's other sides
+abbrev pub eastward : Cell → List Polygon → ℕ
+eastward root polygons = min (unsigned_abs (pos 128 *ℤ greatest (longitudes polygons) -ℤ root.x)) (2 ^ 29 - 1)
 
--- the tile of this number, at all ranks
-abbrev pub tile : Cell → ℕ → ℕ → Cell
-tile root size number = record {
-  x = root.x +ℤ pos ((number % parts size) * 2 ^ size);
-  y = root.y +ℤ pos ((number / parts size) * 2 ^ size);
+abbrev pub northward : Cell → List Polygon → ℕ
+northward root polygons = min (unsigned_abs (pos 128 *ℤ greatest (latitudes polygons) -ℤ root.y)) (2 ^ 29 - 1)
+
+-- so many parts of this size begin within a length
+abbrev pub parts : ℕ → ℕ → ℕ
+parts length size = length / 2 ^ size + 1
+
+-- the tile of this size in this column and row, at all ranks
+abbrev pub tile : Cell → ℕ → ℕ → ℕ → Cell
+tile root size column row = record {
+  x = root.x +ℤ pos (column * 2 ^ size);
+  y = root.y +ℤ pos (row * 2 ^ size);
   size = size;
   first = 0;
   last = 720;
 }
 
--- the cell is large, and its box is that of the tile of this number
-pub record IsTile (root cell : Cell) (number : ℕ) : Type 0 where
-  pub large : 24 ≤ cell.size
-  pub known : number < parts cell.size * parts cell.size
-  pub same_box : box_of cell ≡ box_of (tile root cell.size number)
+-- each element of the list is as its number asks
+pub record Each {A : Type 0} (P : ℕ → A → Type 0) (xs : List A) : Type 0 where
+  pub at : (n : ℕ) (x : A) → slice_get xs n ≡ Some x → P n x
 
--- the places that are named for the tiles of this size
-pub record AreNamedFor (polygons : List Polygon) (root : Cell) (size : ℕ) (places : List (Option Point)) : Type 0 where
-  pub are : (number : ℕ) (d : Option Point) → number < length places →
-      option_map place_of (slice_index_or places number d) ≡ named (box_of (tile root size number)) polygons
+-- the place is the one that is named for the tile in this row and column
+pub record IsNamedFor (polygons : List Polygon) (root : Cell) (size row column : ℕ) (p : Option Point) : Type 0 where
+  pub is : option_map place_of p ≡ named (box_of (tile root size column row)) polygons
 
--- those of all large sizes, the least one first
-pub record AreTables {Z : Type 0} (polygons : List Polygon) (root : Cell) (tables : List (Vec (Option Point) Z)) : Type 0 where
-  pub complete : (n : ℕ) (d : Vec (Option Point) Z) → n < length tables →
-      length (slice_index_or tables n d).items ≡ parts (24 + n) * parts (24 + n)
-  pub named : (n : ℕ) (d : Vec (Option Point) Z) → n < length tables →
-      AreNamedFor polygons root (24 + n) (slice_index_or tables n d).items
+-- those of all tiles of a row
+pub record AreNamedInRow {Z : Type 0} (polygons : List Polygon) (root : Cell) (size row : ℕ) (places : Vec (Option Point) Z) : Type 0 where
+  pub complete : length places.items ≡ parts (eastward root polygons) size
+  pub named : Each (IsNamedFor polygons root size row) places.items
+
+-- of all rows of this size
+pub record AreNamedInRows {Z : Type 0} (polygons : List Polygon) (root : Cell) (size : ℕ) (rows : Vec (Vec (Option Point) Z) Z) : Type 0 where
+  pub complete : length rows.items ≡ parts (northward root polygons) size
+  pub named : Each (AreNamedInRow polygons root size) rows.items
+
+-- and of all sizes from the least one to the root's
+pub record AreTables {Z : Type 0} (polygons : List Polygon) (root : Cell) (least : ℕ) (tables : List (Vec (Vec (Option Point) Z) Z)) : Type 0 where
+  pub complete : least + length tables ≡ 30
+  pub named : Each (λ n. AreNamedInRows polygons root (least + n)) tables

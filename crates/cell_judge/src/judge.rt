@@ -1,16 +1,15 @@
 // What a sky is made of, and how it judges.
-ghost use Rattle.std.specs.Prelude.{◌≡◌, ◌<◌, IfOk, slice_get};
+ghost use Rattle.std.specs.Prelude.{◌≡◌, ◌<◌, IfOk, Some, slice_get};
 ghost use Rattle.solar_terms.specs.Sun.{grid_sun};
 ghost use Rattle.method_table.specs.Row.{row_of};
 ghost use Rattle.region.specs.Extent.{latitudes, least, longitudes};
-ghost use Rattle.region.specs.Faults.{first_fault};
 ghost use Rattle.cell_split.specs.Cells.{IsCell, IsRoot, root_at};
 ghost use Rattle.cell_judge.specs.Limits.{AreInLimits, IsInLimits, IsOver};
 ghost use Rattle.cell_judge.specs.Made.{IsSkyOf};
 ghost use Rattle.cell_judge.specs.Skies.{verdict_with};
 
 use crate::sky::Sky;
-use crate::tiles::tables;
+use crate::tiles::large_places;
 use crate::values::{minutes_at, places_at, value};
 use crate::verdicts::verdict_at;
 use cell_split::{Cell, Judge, Task, Verdict, rect_of, root_at};
@@ -21,21 +20,20 @@ use std::alloc::Global;
 
 /// The root at the least longitude and the least latitude of a district.
 pub(crate) fn root_over(district: &District) -> Cell
-    requires { first_fault district.now ≡ None }
     ensures value { result ≡ root_at (least (longitudes district.now)) (least (latitudes district.now)) }
     ensures root { IsRoot result }
     ensures over { IsOver result district.now }
 {
+    district.has_no_fault();
     root_at(district.west(), district.south())
 }
 
 impl Sky {
     /// The sky over a district for the problems of a day, with the root at its least longitude and
     /// least latitude. Every minute of their frames is within 53,200,000 minutes of 2000-01-01 12:00
-    /// Universal Time. That a district has no fault is known where it was made.
+    /// Universal Time.
     pub fn new(alloc: Global, district: District, problems: [Problem; 7]) -> Result<Sky, NoMemory>
-        requires sound { first_fault district ≡ None }
-        requires limits { AreInLimits problems }
+        requires { AreInLimits problems }
         ensures { IfOk result
             (IsSkyOf district problems (root_at (least (longitudes district)) (least (latitudes district)))) }
     {
@@ -57,7 +55,7 @@ impl Sky {
         ensures { IfOk result (IsSkyOf district problems root) }
     {
         let strips = district.strips(alloc, root.y)?;
-        let large = tables(alloc, &district, &root)?;
+        let large = large_places(alloc, &district, &root)?;
         Ok(Sky {
             district,
             strips,

@@ -6,8 +6,6 @@ mod judge;
 pub mod laws;
 mod named;
 mod sky;
-#[cfg(test)]
-mod tests;
 mod tiles;
 mod values;
 mod verdicts;

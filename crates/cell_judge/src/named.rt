@@ -9,7 +9,7 @@ ghost use Rattle.cell_split.specs.Laws.{box_of};
 ghost use Rattle.cell_judge.specs.Strips.{IsInStrip};
 
 use crate::sky::Sky;
-use crate::tiles::{LEAST_SIZE, distance, tile_number};
+use crate::tiles::{distance, place_at, seat_of};
 use cell_split::{Cell, rect_of};
 use region::{Point, Rect};
 
@@ -43,14 +43,17 @@ impl Sky {
         }
     }
 
-    /// The place of the district that is named for the cell's box: from a table for a large box that
-    /// tiles the root's.
+    /// The place of the district that is named for the cell's box: from a table for a large box that is
+    /// a tile of the root's.
     pub(crate) fn named(&self, cell: &Cell) -> Option<Point>
         requires { IsCellOf self.now.root cell.now }
         ensures { option_map place_of result ≡ named (box_of cell.now) self.now.district }
     {
-        match tile_number(&self.root, cell) {
-            Some(number) => self.large[(cell.size - LEAST_SIZE) as usize][number],
+        if cell.size < self.large.least {
+            return self.named_by_edges(cell);
+        }
+        match seat_of(&self.root, cell) {
+            Some(seat) => place_at(&self.district, &self.root, &self.large, cell, seat),
             None => self.named_by_edges(cell),
         }
     }

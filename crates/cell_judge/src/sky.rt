@@ -1,14 +1,14 @@
 // A district and the problems of a day.
-ghost use Rattle.std.specs.Prelude.{◌≡◌, length};
 ghost use Rattle.std.proofs.Props.{props};
 ghost use Rattle.region.specs.Strips.{AreStripsOf};
 ghost use Rattle.cell_split.specs.Cells.{IsRoot};
 ghost use Rattle.cell_judge.specs.Limits.{AreInLimits, IsOver};
 ghost use Rattle.cell_judge.specs.Tiles.{AreTables};
 
+use crate::tiles::Tables;
 use cell_split::Cell;
 use method_table::Problem;
-use region::{District, Point, Strips};
+use region::{District, Strips};
 
 /// A district under the sky of one day: the judge of the cells of a root over it, for each problem of
 /// that day.
@@ -16,14 +16,13 @@ use region::{District, Point, Strips};
 pub struct Sky {
     pub(crate) district: District,
     pub(crate) strips: Strips,
-    /// The places that are named for the large boxes that tile the root's.
-    pub(crate) large: Vec<Vec<Option<Point>>>,
+    /// The places that are named for the large boxes of the root.
+    pub(crate) large: Tables,
     pub(crate) problems: [Problem; 7],
     pub(crate) root: Cell,
     pub ghost is_root: { IsRoot root },
     ghost strips_are: { AreStripsOf district root.y strips },
-    ghost large_sizes: { length large.items ≡ 6 },
-    ghost large_are: { AreTables district root large.items } by { Prim.hlevel props },
+    ghost large_are: { AreTables district root large.least large.places.items } by { Prim.hlevel props },
     pub ghost is_over: { IsOver root district },
     pub ghost in_limits: { AreInLimits problems },
 }

@@ -9,8 +9,8 @@ pub root_at-requires : goal.root_at-requires
 root_at-requires c =
     let west : FitsSigned w64 c.west.result = search rules in
     let south : FitsSigned w64 c.south.result = search rules in
-    let x = west_near c.args.district.now c.requires in
-    let y = south_near c.args.district.now c.requires in
+    let x = west_near c.args.district.now c.has_no_fault.ensures in
+    let y = south_near c.args.district.now c.has_no_fault.ensures in
     simp to_z-of_z (record {
       west_not_low = omega (arith, ints, c.west.ensures, x.not_low);
       west_not_high = omega (arith, ints, c.west.ensures, x.not_high);
@@ -26,5 +26,5 @@ returns c =
     record {
       value = value;
       root = c.root_at.ensures.root;
-      over = let P : Cell → Type 0 = λ root. IsOver root c.args.district.now in subst P (sym value) (root_is_over c.args.district.now c.requires);
+      over = let P : Cell → Type 0 = λ root. IsOver root c.args.district.now in subst P (sym value) (root_is_over c.args.district.now c.has_no_fault.ensures);
     }

@@ -1,0 +1,6 @@
+// Tests of the crates of places and cells, a module a crate.
+// Contract: none; the crate has tests alone.
+#![tactic(auto)]
+
+#[cfg(test)]
+mod cell_judge;
