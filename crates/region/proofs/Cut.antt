@@ -21,7 +21,7 @@ use Rattle.region.proofs.Touching.{no_cross_level}
 
 -- ---- an edge beyond the box's latitudes
 
-crosses_none : (box : Box) (e : Segment) → IsOrdered box → misses_latitudes box e ≡ true → crosses (corner box) e ≡ false
+pub crosses_none : (box : Box) (e : Segment) → IsOrdered box → misses_latitudes box e ≡ true → crosses (corner box) e ≡ false
 crosses_none box e ordered h =
     no_cross_level (is_above (corner box) e.ya) (is_above (corner box) e.yb) (int_lt (pos 0) (side e (corner box))) (int_lt (side e (corner box)) (pos 0))
     (elim (or_cases (int_lt e.ya box.y0 && int_lt e.yb box.y0) (int_lt box.y1 e.ya && int_lt box.y1 e.yb) h) [
@@ -133,7 +133,7 @@ other_number : (m n : ℕ) → n < m → (m == n) ≡ false
 other_number m n h = grind (arith, nat_tests)
 
 -- the edges of the polygon at hand
-scan_group : (p : Place) (n : ℕ) (odd : Bool) (edges : List Segment) (rest : List (ℕ × Segment))
+pub scan_group : (p : Place) (n : ℕ) (odd : Bool) (edges : List Segment) (rest : List (ℕ × Segment))
     → is_in_some p n odd (tagged n edges ++ rest)
     ≡ (list_any (is_on p) edges || is_in_some p n (xor odd (odd_by (crosses p) edges)) rest)
 scan_group p n odd [] rest = ap (λ o. is_in_some p n o rest) (sym (xor_false odd))

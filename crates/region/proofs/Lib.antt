@@ -13,3 +13,4 @@ pub mod Counting
 pub mod Reach
 pub mod Cut
 pub mod Keeping
+mod InBlocks

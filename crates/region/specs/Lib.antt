@@ -9,3 +9,4 @@ pub mod Faults
 pub mod Vectors
 pub mod Bounds
 pub mod Strips
+pub mod Blocks

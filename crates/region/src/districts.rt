@@ -12,7 +12,7 @@ ghost use Rattle.region.specs.Faults.{first_fault, IsSurveyed};
 ghost use Rattle.region.specs.Vectors.{rings_in, polygons_in};
 ghost use Rattle.region.specs.Views.{place_of, box_of};
 
-use crate::bands::{Band, band_of};
+use crate::edge_points::corner;
 use crate::faults::RegionFault;
 use crate::points::Point;
 use crate::polygons::{Polygon, any_contains, first_point};
@@ -127,11 +127,7 @@ impl District {
         if let Some(p) = first_point(self.polygons.as_slice(), &r) {
             return Some(p);
         }
-        let corner = Point {
-            a: r.x0 as i128,
-            b: r.y0 as i128,
-            d: 1,
-        };
+        let corner = corner(&r);
         if any_contains(self.polygons.as_slice(), &corner) {
             Some(corner)
         } else {

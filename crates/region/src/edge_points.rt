@@ -3,7 +3,7 @@ ghost use Rattle.std.specs.Prelude.{◌≡◌, pos, int_lt, int_le, ◌&&◌, �
 ghost use Rattle.std.specs.Option.{option_map};
 ghost use Rattle.region.specs.Magnitude.{IsWithin};
 ghost use Rattle.region.specs.Laws.{misses_latitudes, misses_longitudes};
-ghost use Rattle.region.specs.Named.{at_start, at_longitude, at_latitude, edge_point};
+ghost use Rattle.region.specs.Named.{at_start, at_longitude, at_latitude, corner, edge_point};
 ghost use Rattle.region.specs.Views.{place_of, box_of, segment_of};
 
 use crate::crossings::passing;
@@ -92,6 +92,7 @@ fn at_latitude(edge: &Edge, r: &Rect, y: i64) -> Option<Point>
 }
 
 // The edge's start in the box, or where it first passes a side: west, east, south, north.
+#[inline(never)]
 fn on_a_side(edge: &Edge, r: &Rect) -> Option<Point>
     ensures { option_map place_of result ≡ edge_point (box_of r.now) (segment_of edge.now) }
 {
@@ -110,7 +111,20 @@ fn on_a_side(edge: &Edge, r: &Rect) -> Option<Point>
     at_latitude(edge, r, r.y1)
 }
 
-/// The place where the edge meets the box, if it does. The edge's own box is tested first.
+/// A box's corner in the south-west.
+pub(crate) fn corner(r: &Rect) -> Point
+    ensures { place_of result ≡ corner (box_of r.now) }
+{
+    Point {
+        a: r.x0 as i128,
+        b: r.y0 as i128,
+        d: 1,
+    }
+}
+
+/// The place where the edge meets the box, if it does. The edge's own box is tested first, in the loop
+/// that calls this.
+#[inline(always)]
 pub(crate) fn edge_point(edge: &Edge, r: &Rect) -> Option<Point>
     ensures { option_map place_of result ≡ edge_point (box_of r.now) (segment_of edge.now) }
 {

@@ -2,7 +2,7 @@
 // Contract: a place is in a district exactly by the even-odd rule, and a box is met exactly where one of its places is.
 #![tactic(auto)]
 
-mod bands;
+mod blocks;
 mod bounds;
 #[cfg(test)]
 mod cases;
@@ -20,6 +20,7 @@ mod points;
 mod polygons;
 mod rects;
 mod rings;
+mod scans;
 mod strips;
 mod surveys;
 #[cfg(test)]

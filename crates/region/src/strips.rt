@@ -4,15 +4,17 @@ ghost use Rattle.region.specs.Magnitude.{IsWithin};
 ghost use Rattle.std.specs.Option.{option_map};
 ghost use Rattle.region.specs.Rings.{xor};
 ghost use Rattle.region.specs.Named.{first_point, named};
+ghost use Rattle.region.specs.Blocks.{AreBlocksOf};
 ghost use Rattle.region.specs.Strips.{StripView, IsStripOf, AreStripsOf, top_of, numbered, is_in_some};
 ghost use Rattle.region.specs.Views.{place_of, box_of, segment_of};
 
-use crate::edge_points::edge_point;
+use crate::blocks::{Block, blocks_of};
+use crate::edge_points::corner;
 use crate::edges::Edge;
 use crate::points::Point;
 use crate::polygons::{Polygon, edges_between};
 use crate::rects::Rect;
-use crate::touches::edge_touch;
+use crate::scans::{any_around, first_in};
 use std::alloc::{AllocError, Global};
 use std::marker::Model;
 
@@ -25,67 +27,23 @@ const HEIGHT: i64 = 8_388_608;
 pub struct Strip {
     low: i64,
     edges: Vec<Edge>,
+    blocks: Vec<Block>,
 }
 
 impl Model for Strip {
     ghost Value = { StripView };
 
     ghost view = { λ s. record { low = s.low; edges = s.edges.items } };
-}
 
-/// Where the edges first meet a box.
-pub(crate) fn first_of(edges: &[Edge], r: &Rect) -> Option<Point>
-    ensures { option_map place_of result ≡ first_point (box_of r.now) (map segment_of edges.now) }
-{
-    for edge in edges {
-        if let Some(p) = edge_point(edge, r) {
-            return Some(p);
-        }
-    }
-    None
-}
-
-// The polygon so far has the place inside, and another one begins.
-fn ends_inside(same: bool, odd: bool) -> bool
-    ensures { result ≡ (not same && odd) }
-{
-    !same && odd
-}
-
-// The parity with one more edge, of the same polygon or of the next.
-fn next_odd(same: bool, odd: bool, crossed: bool) -> bool
-    ensures { result ≡ (if same then xor odd crossed else crossed) }
-{
-    if same { odd != crossed } else { crossed }
-}
-
-/// Whether the place is in a polygon of which these are the edges that matter to it.
-pub(crate) fn any_around(edges: &[Edge], p: &Point) -> bool
-    ensures { result ≡ is_in_some (place_of p.now) 0 false (map numbered edges.now) }
-{
-    let mut polygon = 0;
-    let mut odd = false;
-    for edge in edges {
-        let same = edge.polygon == polygon;
-        if ends_inside(same, odd) {
-            return true;
-        }
-        let touch = edge_touch(edge, p);
-        if touch.on {
-            return true;
-        }
-        odd = next_odd(same, odd, touch.odd);
-        polygon = edge.polygon;
-    }
-    odd
+    ghost invariant = { λ s. AreBlocksOf s.blocks.items s.edges.items };
 }
 
 impl Strip {
-    pub(crate) fn new(low: i64, edges: Vec<Edge>) -> Strip
-        ensures low { result.low ≡ low }
-        ensures edges { result.edges ≡ edges.items }
+    pub(crate) fn new(alloc: Global, low: i64, edges: Vec<Edge>) -> Result<Strip, AllocError>
+        ensures { IfOk result (λ strip. (strip.low ≡ low) × (strip.edges ≡ edges.items)) }
     {
-        Strip { low, edges }
+        let blocks = blocks_of(alloc, edges.as_slice())?;
+        Ok(Strip { low, edges, blocks })
     }
 
     /// The lower end of the strip's latitudes, in place units.
@@ -116,16 +74,13 @@ impl Strip {
         ensures { (polygons : List (List (List (ℤ × ℤ)))) → IsStripOf polygons self.now
             → option_map place_of result ≡ named (box_of r) polygons }
     {
-        if let Some(p) = first_of(self.edges.as_slice(), &r) {
+        let blocks = self.blocks.as_slice();
+        let edges = self.edges.as_slice();
+        if let Some(p) = first_in(blocks, edges, &r) {
             return Some(p);
         }
-        let corner = Point {
-            a: r.x0 as i128,
-            b: r.y0 as i128,
-            d: 1,
-        };
-        if any_around(self.edges.as_slice(), &corner) {
-            Some(corner)
+        if any_around(blocks, edges, &r) {
+            Some(corner(&r))
         } else {
             None
         }
@@ -170,8 +125,14 @@ fn strip_of(alloc: Global, polygons: &[Polygon], low: i64) -> Result<Strip, Allo
     requires low { IsWithin (pos 47_000_000_000) low }
     ensures { IfOk result (λ strip. (strip.low ≡ low) × IsStripOf polygons.now strip) }
 {
-    let edges = edges_between(alloc, polygons, low, top_of(low))?;
-    Ok(Strip::new(low, edges))
+    let mut edges = Vec::new(alloc);
+    let mut number = 0;
+    for polygon in polygons {
+        polygon.keep_edges(&mut edges, number, low)?;
+        number += 1;
+    }
+    let strip = Strip::new(alloc, low, edges)?;
+    Ok(strip)
 }
 
 // The lower end of the strip of this number.

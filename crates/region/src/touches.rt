@@ -79,7 +79,9 @@ fn is_crossed(from_above: bool, to_above: bool, side: i128) -> bool
     }
 }
 
-/// How one edge stands to the place. The edge's own box is tested first.
+/// How one edge stands to the place. The edge's own box is tested first. In a loop over edges round a
+/// place with whole coordinates no denominator is left of it.
+#[inline(always)]
 pub(crate) fn edge_touch(edge: &Edge, p: &Point) -> Touch
     ensures on { result.on ≡ is_on (place_of p.now) (segment_of edge.now) }
     ensures odd { result.odd ≡ crosses (place_of p.now) (segment_of edge.now) }

@@ -9,9 +9,8 @@ use Rattle.region.proofs.strips.strip_of.Goals as goal
 pub returns : goal.returns
 returns c =
     let low : FitsSigned w64 c.args.low = c.ranges.low in
-    let top : FitsSigned w64 c.top_of.result = search rules in
-    let high = simp to_z-of_z at c.top_of.ensures in
-    let all = simp to_z-of_z at c.in_ok-edges.ensures in
-    strip_done c.args.polygons.now c.new.result c.args.low _
-    (simp to_z-of_z at c.new.ensures.low) c.new.ensures.edges
-    (all ∙ ap (λ (z : ℤ). edges_between c.args.low z c.args.polygons.now) high)
+    let none : drop c.loop-polygon.polygon-index c.args.polygons.now ≡ [] = grind (arith, common_steps) in
+    let all = simp to_z-of_z at c.loop-polygon.invariant.1 in
+    let made = simp to_z-of_z at c.in_ok-strip.ensures in
+    strip_done c.args.polygons.now c.in_ok-strip.strip c.args.low c.loop-polygon.edges.items c.loop-polygon.number
+    made.0 made.1 (rw none at all)

@@ -1,7 +1,5 @@
-use Rattle.std.proofs.Common.{List, rules, FitsSigned, sym, ap, ◌∙◌}
-use Rattle.std.specs.Int.{w64, w128}
+use Rattle.std.proofs.Common.{List, sym, ap, ◌∙◌}
 use Rattle.std.specs.List.{flat_map}
-use Rattle.std.proofs.lemmas.Int.{to_z-of_z}
 use Rattle.region.specs.Rings.{Polygon, polygon_edges, is_in_district}
 use Rattle.region.specs.Named.{corner, first_point}
 use Rattle.region.specs.Faults.{first_fault}
@@ -19,27 +17,21 @@ returns-in-Some-clause-some c =
 
 pub returns-then-any_contains-clause-some : goal.returns-then-any_contains-clause-some
 returns-then-any_contains-clause-some c =
-    let x : FitsSigned w64 c.args.r.x0 = search rules in
-    let y : FitsSigned w64 c.args.r.y0 = search rules in
-    let x' : FitsSigned w128 c.args.r.x0 = search rules in
-    let y' : FitsSigned w128 c.args.r.y0 = search rules in
+    let box = box_of c.args.r in
     let same = c.as_slice-2.ensures.value ∙ c.self.view_is in
-    let here = simp to_z-of_z at c.if-any_contains.ensures in
-    simp to_z-of_z (
-      corner_ordered (box_of c.args.r) (record { x_ordered = c.args.r.x_ordered; y_ordered = c.args.r.y_ordered }),
-      sym (here ∙ ap (λ (xs : List Polygon). is_in_district (corner (box_of c.args.r)) xs) same),
+    let here = rw c.corner-corner.ensures at c.if-any_contains.ensures in
+    rw c.corner-corner.ensures (
+      corner_ordered box (record { x_ordered = c.args.r.x_ordered; y_ordered = c.args.r.y_ordered }),
+      sym (here ∙ ap (λ (xs : List Polygon). is_in_district (corner box) xs) same),
     )
 
 pub returns-else-any_contains-clause-none : goal.returns-else-any_contains-clause-none
 returns-else-any_contains-clause-none c = λ p i.
-    let x : FitsSigned w64 c.args.r.x0 = search rules in
-    let y : FitsSigned w64 c.args.r.y0 = search rules in
-    let x' : FitsSigned w128 c.args.r.x0 = search rules in
-    let y' : FitsSigned w128 c.args.r.y0 = search rules in
+    let box = box_of c.args.r in
     let same = c.as_slice.ensures.value ∙ c.self.view_is in
     let same' = c.as_slice-2.ensures.value ∙ c.self.view_is in
-    let here = simp to_z-of_z at c.if-any_contains.ensures in
-    let none = c.in_default.ensures ∙ ap (λ (xs : List Polygon). first_point (box_of c.args.r) (flat_map polygon_edges xs)) same in
+    let here = rw c.corner-corner.ensures at c.if-any_contains.ensures in
+    let none = c.in_default.ensures ∙ ap (λ (xs : List Polygon). first_point box (flat_map polygon_edges xs)) same in
     let closed = (sound c.args.self.now (ap first_fault (sym c.self.view_is) ∙ c.self.invariant.sound)).closed in
-    in_district_alike (box_of c.args.r) p c.args.self.now i closed (sym none)
-    ∙ sym (here ∙ ap (λ (xs : List Polygon). is_in_district (corner (box_of c.args.r)) xs) same')
+    in_district_alike box p c.args.self.now i closed (sym none)
+    ∙ sym (here ∙ ap (λ (xs : List Polygon). is_in_district (corner box) xs) same')

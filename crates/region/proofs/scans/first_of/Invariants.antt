@@ -1,7 +1,7 @@
 use Rattle.std.proofs.Common.{◌≡◌, drop, map}
 use Rattle.region.specs.Named.{first_point}
 use Rattle.region.specs.Views.{box_of, segment_of}
-use Rattle.region.proofs.strips.first_of.Given as goal
+use Rattle.region.proofs.scans.first_of.Given as goal
 
 abbrev pub invariant-loop-edge : goal.invariant-loop-edge
 invariant-loop-edge l =
