@@ -165,8 +165,11 @@ leaves_in_tree c t k =
     (λ u v e each. Every-flat_map (IsLeafOf c) (λ d. leaves c (task_of u.problem d)) (children_of u.cell) each)
     (levels t.cell) t (omega arith) k
 
--- the root is a task of each problem
-pub root_is_task : (c : Content) → IsLawful c → (problem : ℕ) → problem < c.problems → IsTask c (root_task c problem)
-root_is_task c law problem known =
+-- the root is a cell of itself, and a task of each problem
+pub root_in_itself : (c : Content) → IsLawful c → IsCellOf c.root c.root
+root_in_itself c law =
     let formed : IsFormed c.root = record { not_small = omega (arith, law.root.size); not_large = omega (arith, law.root.size); ordered = omega (arith, law.root.first, law.root.last); in_frame = omega (arith, law.root.last) } in
-    record { known = known; cell = record { formed = formed; inside = LiesIn_refl c.root } }
+    record { formed = formed; inside = LiesIn_refl c.root }
+
+pub root_is_task : (c : Content) → IsLawful c → (problem : ℕ) → problem < c.problems → IsTask c (root_task c problem)
+root_is_task c law problem known = record { known = known; cell = root_in_itself c law }
