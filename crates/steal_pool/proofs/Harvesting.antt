@@ -1,6 +1,6 @@
 -- Searches of one problem after another make a harvest.
-use Rattle.std.proofs.Common.{◌≡◌, ℕ, suc, ◌+◌, ◌<◌, ◌≤◌, List, [], ◌∷◌, ◌++◌, length, filter, All, Contains, Option, None, sum_by, sym, refl, ap, ◌∙◌, subst, arith, add-one, length-append}
-use Rattle.std.proofs.lemmas.List.{get_or_push, get_or_append_left}
+use Rattle.std.proofs.Common.{◌≡◌, ℕ, suc, ◌+◌, ◌<◌, ◌≤◌, List, [], ◌∷◌, ◌++◌, length, filter, All, Contains, Option, None, sum_by, sym, refl, ap, ◌∙◌, append_assoc, subst, arith, add-one, length-append}
+use Rattle.std.proofs.lemmas.List.{append-nil, get_or_push, get_or_append_left}
 use Rattle.std.proofs.lemmas.List.Elements.{All-nil, All-append, All-weaker, Contains-append_left, Contains-append_right, filter-append}
 use mathlib.Core.Logic.{dite}
 use native.Mathlib.Decide.{ℕ_discrete}
@@ -9,14 +9,7 @@ use Rattle.cell_split.specs.Judges.{Content}
 use Rattle.cell_split.specs.Tree.{root_task, leaves, all_leaves_to}
 use Rattle.cell_split.specs.Entries.{refuted_word}
 use Rattle.steal_pool.specs.Harvests.{word_of, words_of, is_above, IsHarvest}
-use Rattle.steal_pool.specs.Collected.{Collects}
-
--- the first n problems are searched
-pub record Searched (c : Content) (n : ℕ) (ranks : List (Option ℕ)) (found : List Leaf) : Type 0 where
-  pub counted : length ranks ≡ n
-  pub refuted : (k : ℕ) → k < n → words_of ranks k ≡ refuted_word (leaves c (root_task c k))
-  pub above : (words : ℕ → ℕ) → ((k : ℕ) → k < n → words_of ranks k ≤ words k) → filter (is_above words) found ≡ filter (is_above words) (all_leaves_to n c)
-  pub part : All (Contains (all_leaves_to n c)) found
+use Rattle.steal_pool.specs.Collected.{Collects, Continues, Searched}
 
 pub searched-none : (c : Content) → Searched c 0 [] []
 searched-none c = record { counted = refl; refuted = λ k h. absurd (omega arith); above = λ words h. refl; part = All-nil (Contains []) }
@@ -52,3 +45,27 @@ harvested c ranks found all = record {
   above = λ weight. ap (sum_by weight) (all.above (words_of ranks) (λ k h. omega arith));
   others = all.part;
 }
+
+-- no problem continues the search of those before it
+pub continues-none : (c : Content) (n : ℕ) (ranks : List (Option ℕ)) (found : List Leaf) → ranks ≡ [] → found ≡ [] → Continues c n n ranks found
+continues-none c n ranks found no_rank no_leaf r f done =
+    let P : List (Option ℕ) → Type 0 = λ l. Searched c n l (f ++ found) in
+    let Q : List Leaf → Type 0 = λ l. Searched c n r l in
+    subst P (sym (ap (λ (l : List (Option ℕ)). r ++ l) no_rank ∙ append-nil r)) (subst Q (sym (ap (λ (l : List Leaf). f ++ l) no_leaf ∙ append-nil f)) done)
+
+-- one problem more
+pub continues-more : (c : Content) (from n : ℕ) (ranks : List (Option ℕ)) (rank : Option ℕ) (earlier found : List Leaf)
+    → Continues c from n ranks earlier → Collects n (leaves c (root_task c n)) 0 (word_of rank) earlier found → Continues c from (n + 1) (ranks ++ rank ∷ []) found
+continues-more c from n ranks rank earlier found before now r f done =
+    let P : List (Option ℕ) → Type 0 = λ l. Searched c (n + 1) l (f ++ found) in
+    subst P (append_assoc r ranks (rank ∷ [])) (searched-more c n (r ++ ranks) rank (f ++ earlier) (f ++ found) (before r f done) (record {
+      kept = now.kept;
+      behind = ap (λ (l : List Leaf). f ++ l) now.behind ∙ sym (append_assoc f earlier now.kept);
+      word = now.word;
+      above = now.above;
+      part = now.part;
+    }))
+
+-- all problems
+pub continued : (c : Content) (ranks : List (Option ℕ)) (found : List Leaf) → Continues c 0 c.problems ranks found → IsHarvest c ranks found
+continued c ranks found all = harvested c ranks found (all [] [] (searched-none c))

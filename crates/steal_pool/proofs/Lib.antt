@@ -1,3 +1,4 @@
 pub mod TreeFacts
 pub mod Collecting
 pub mod Harvesting
+pub mod PartStarts

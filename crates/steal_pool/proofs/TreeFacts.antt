@@ -18,13 +18,3 @@ child_at c t cells i d is same inside =
     let child = subst P (sym same) (All-from_recursion (IsChildOf c.root t.cell) (children_of t.cell) (children_are c.root t.cell is.cell)) i d inside in
     (record { known = is.known; cell = child.is_cell }, child.falls)
 
--- a root is a task
-pub root_at : (c : Content) (k : ℕ) → IsLawful c → k < c.problems → IsTask c (root_task c k)
-root_at c k lawful inside =
-    let root = lawful.root in record {
-      known = inside;
-      cell = record {
-        formed = record { not_small = omega arith; not_large = omega arith; ordered = omega arith; in_frame = omega arith };
-        inside = LiesIn_refl c.root;
-      };
-    }

@@ -1,8 +1,10 @@
--- What is kept of a part of a tree, whose leaves are searched in order.
-use Rattle.std.specs.Prelude.{◌≡◌, ℕ, ◌≤◌, ◌++◌, max, List, filter, All, Contains}
+-- What is kept of a part of a tree, whose leaves are searched in order, and of the trees of problems that follow each other.
+use Rattle.std.specs.Prelude.{◌≡◌, ℕ, ◌*◌, ◌/◌, ◌<◌, ◌≤◌, ◌++◌, max, List, length, filter, All, Contains, Option}
 use Rattle.cell_split.specs.declared.verdict.Leaf.{Leaf}
+use Rattle.cell_split.specs.Judges.{Content}
+use Rattle.cell_split.specs.Tree.{all_leaves_to, leaves, root_task}
 use Rattle.cell_split.specs.Entries.{refuted_word}
-use Rattle.steal_pool.specs.Harvests.{is_above}
+use Rattle.steal_pool.specs.Harvests.{is_above, words_of}
 
 -- Of these leaves of problem k some were kept, behind those found earlier. The word of the refuted rank was `before`, and is `after`.
 pub record Collects (k : ℕ) (all : List Leaf) (before after : ℕ) (earlier found : List Leaf) : Type 0 where
@@ -13,3 +15,20 @@ pub record Collects (k : ℕ) (all : List Leaf) (before after : ℕ) (earlier fo
   -- above it none was left out, and none kept twice
   pub above : (words : ℕ → ℕ) → after ≤ words k → filter (is_above words) kept ≡ filter (is_above words) all
   pub part : All (Contains all) kept
+
+-- the first n problems are searched
+pub record Searched (c : Content) (n : ℕ) (ranks : List (Option ℕ)) (found : List Leaf) : Type 0 where
+  pub counted : length ranks ≡ n
+  pub refuted : (k : ℕ) → k < n → words_of ranks k ≡ refuted_word (leaves c (root_task c k))
+  pub above : (words : ℕ → ℕ) → ((k : ℕ) → k < n → words_of ranks k ≤ words k) → filter (is_above words) found ≡ filter (is_above words) (all_leaves_to n c)
+  pub part : All (Contains (all_leaves_to n c)) found
+
+-- The problems from `from` to before `to` are searched: behind what was found of those before them, this is what is found of all
+-- before `to`.
+abbrev pub Continues : Content → ℕ → ℕ → List (Option ℕ) → List Leaf → Type 0
+Continues c from to ranks found =
+    (earlier : List (Option ℕ)) (earlier_found : List Leaf) → Searched c from earlier earlier_found → Searched c to (earlier ++ ranks) (earlier_found ++ found)
+
+-- where part i of the problems begins, and the one before it ends
+abbrev pub part_start : ℕ → ℕ → ℕ → ℕ
+part_start problems parts i = i * problems / parts

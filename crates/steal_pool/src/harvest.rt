@@ -1,5 +1,7 @@
 // What a search gives.
 use cell_split::Leaf;
+use no_memory::NoMemory;
+use std::alloc::Global;
 use std::marker::Model;
 
 /// For each problem the greatest refuted rank, None where no rank is refuted. Contracts see a list.
@@ -39,7 +41,7 @@ pub struct Harvest {
 }
 
 impl Harvest {
-    ghost use Rattle.std.specs.Prelude.{◌≡◌, ◌<◌, length, slice_get, Some};
+    ghost use Rattle.std.specs.Prelude.{◌≡◌, ◌<◌, ◌++◌, [], length, slice_get, Some, OnOk};
 
     /// The greatest refuted rank of problem `k`, None where no rank is refuted.
     pub fn refuted_rank(&self, k: u32) -> Option<u32>
@@ -60,5 +62,29 @@ impl Harvest {
         ensures { slice_get self.now.leaves i ≡ Some result }
     {
         self.leaves.leaves[i]
+    }
+    /// What is found of no problem.
+    pub(crate) fn empty(alloc: Global) -> Harvest
+        ensures refuted { result.refuted ≡ [] }
+        ensures leaves { result.leaves ≡ [] }
+    {
+        Harvest {
+            refuted: Ranks {
+                ranks: Vec::new(alloc),
+            },
+            leaves: Leaves {
+                leaves: Vec::new(alloc),
+            },
+        }
+    }
+
+    /// Puts what was found of the next problems behind this.
+    pub(crate) fn append(&mut self, mut next: Harvest) -> Result<(), NoMemory>
+        ensures refuted { OnOk result (self.new.refuted ≡ self.old.refuted ++ next.refuted) }
+        ensures leaves { OnOk result (self.new.leaves ≡ self.old.leaves ++ next.leaves) }
+    {
+        self.refuted.ranks.append(&mut next.refuted.ranks)?;
+        self.leaves.leaves.append(&mut next.leaves.leaves)?;
+        Ok(())
     }
 }

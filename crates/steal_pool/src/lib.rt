@@ -2,10 +2,14 @@
 // Contract: a `Harvest` holds each leaf above the refuted rank of its problem exactly once.
 #![tactic(auto)]
 
+mod gate;
 mod harvest;
+mod parts;
 mod plain;
 #[cfg(test)]
 mod tests;
 
+pub use gate::{Gate, OpenGate};
 pub use harvest::{Harvest, Leaves, Ranks};
+pub use parts::search;
 pub use plain::search_plain;

@@ -1,11 +1,11 @@
 // The search on one thread, from the first cell of a tree to the last.
-ghost use Rattle.std.specs.Prelude.{◌≡◌, ◌<◌, ◌++◌, ◌∷◌, [], ◌↔◌, true, IfOk, OnOk, IsTrue, if◌then◌else◌};
+ghost use Rattle.std.specs.Prelude.{◌≡◌, ◌<◌, ◌≤◌, ◌++◌, ◌∷◌, [], ◌↔◌, true, IfOk, OnOk, IsTrue, if◌then◌else◌};
 ghost use Rattle.cell_split.specs.Judges.{IsTask};
 ghost use Rattle.cell_split.specs.Verdicts.{is_split, is_refuted};
 ghost use Rattle.cell_split.specs.Tree.{leaves};
 ghost use Rattle.cell_split.specs.Entries.{last_word};
 ghost use Rattle.steal_pool.specs.Harvests.{word_of, IsHarvest};
-ghost use Rattle.steal_pool.specs.Collected.{Collects};
+ghost use Rattle.steal_pool.specs.Collected.{Collects, Continues};
 
 use crate::harvest::{Harvest, Leaves, Ranks};
 use cell_split::{Cell, Judge, Leaf, Task, children};
@@ -17,10 +17,24 @@ use std::alloc::Global;
 pub fn search_plain<J: Judge>(alloc: Global, judge: &J) -> Result<Harvest, NoMemory>
     ensures { IfOk result (λ h. IsHarvest (J.content judge.now) h.refuted h.leaves) }
 {
+    search_problems(alloc, judge, 0, judge.problems())
+}
+
+/// The same of the problems from `from` to before `to` alone.
+pub(crate) fn search_problems<J: Judge>(
+    alloc: Global,
+    judge: &J,
+    from: u32,
+    to: u32,
+) -> Result<Harvest, NoMemory>
+    requires ordered { from ≤ to }
+    requires known { to ≤ (J.content judge.now).problems }
+    ensures { IfOk result (λ h. Continues (J.content judge.now) from to h.refuted h.leaves) }
+{
     let cell = judge.root();
     let mut ranks = Vec::new(alloc);
     let mut leaves = Vec::new(alloc);
-    for problem in 0..judge.problems() {
+    for problem in from..to {
         let mut refuted = None;
         visit(judge, Task { problem, cell }, &mut refuted, &mut leaves)?;
         ranks.push(refuted)?;

@@ -1,0 +1,60 @@
+// What each worker passes before it judges a task.
+ghost use Rattle.std.specs.Prelude.{◌≡◌};
+
+use cell_split::{Cell, Judge, Task, Verdict};
+use std::sync::atomic::{AtomicU64, Ordering};
+
+/// Called by each worker before it judges its task number `turn`, from 0 on. No clause rests on it.
+pub trait Gate {
+    fn before(&self, worker: u32, turn: u64);
+}
+
+/// The gate that nobody waits at.
+#[derive(Drop)]
+pub struct OpenGate;
+
+impl Gate for OpenGate {
+    fn before(&self, _: u32, _: u64) {}
+}
+
+/// A judge as one worker asks it: through the gate.
+#[derive(Drop)]
+pub(crate) struct Gated<'a, J: Judge, G: Gate> {
+    judge: &'a J,
+    gate: &'a G,
+    worker: u32,
+    turn: AtomicU64,
+}
+
+impl<'a, J: Judge, G: Gate> Gated<'a, J, G> {
+    pub(crate) fn new(judge: &'a J, gate: &'a G, worker: u32) -> Gated<'a, J, G>
+        ensures { result.judge.now ≡ judge.now }
+    {
+        Gated {
+            judge,
+            gate,
+            worker,
+            turn: AtomicU64::new(0),
+        }
+    }
+}
+
+impl<J: Judge, G: Gate> Judge for Gated<'_, J, G> {
+    ghost content = { λ g. J.content g.judge.now };
+
+    ghost lawful = { λ g. J.lawful g.judge.now };
+
+    fn problems(&self) -> u32 {
+        self.judge.problems()
+    }
+
+    fn root(&self) -> Cell {
+        self.judge.root()
+    }
+
+    fn judge(&self, t: Task) -> Verdict {
+        let turn = self.turn.fetch_add(1, Ordering::SeqCst);
+        self.gate.before(self.worker, turn);
+        self.judge.judge(t)
+    }
+}
