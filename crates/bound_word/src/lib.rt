@@ -5,8 +5,6 @@
 mod calls;
 mod hints;
 mod rule;
-#[cfg(test)]
-mod tests;
 mod words;
 
 pub use hints::State;

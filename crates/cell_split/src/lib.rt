@@ -17,6 +17,3 @@ pub use laws::{
 };
 pub use split::children;
 pub use verdict::{Entry, Leaf, Verdict};
-
-#[cfg(test)]
-mod tests;

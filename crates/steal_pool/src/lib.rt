@@ -6,8 +6,6 @@ mod gate;
 mod harvest;
 mod parts;
 mod plain;
-#[cfg(test)]
-mod tests;
 
 pub use gate::{Gate, OpenGate};
 pub use harvest::{Harvest, Leaves, Ranks};

@@ -1,17 +1,15 @@
+// Judges by which the searches are tried.
 ghost use Rattle.cell_split.specs.Cells.{IsRoot};
 
-use crate::search_plain;
-use cell_split::{Cell, Judge, Task, Verdict, root_at};
+use cell_split::{Cell, Judge, Task, Verdict};
 use region::Point;
-use std::sync::atomic::{AtomicU64, Ordering};
-use std::test::Fail;
 
 /// Refutes the ranks up to 99, proves those from 101 on, and is open at rank 100 in the root's corner.
 #[derive(Drop)]
-struct Threshold {
-    root: Cell,
-    point: Point,
-    ghost is_root: { IsRoot root },
+pub struct Threshold {
+    pub root: Cell,
+    pub point: Point,
+    pub ghost is_root: { IsRoot root },
 }
 
 impl Judge for Threshold {
@@ -48,11 +46,10 @@ impl Judge for Threshold {
 
 /// Refutes the ranks from 360 on, and proves cells of at most 16 ranks.
 #[derive(Drop)]
-struct Late {
-    root: Cell,
-    point: Point,
-    judged: AtomicU64,
-    ghost is_root: { IsRoot root },
+pub struct Late {
+    pub root: Cell,
+    pub point: Point,
+    pub ghost is_root: { IsRoot root },
 }
 
 impl Judge for Late {
@@ -72,7 +69,6 @@ impl Judge for Late {
     }
 
     fn judge(&self, t: Task) -> Verdict {
-        self.judged.fetch_add(1, Ordering::SeqCst);
         let c = t.cell;
         if c.first > 359 {
             Verdict::Refuted(self.point)
@@ -84,47 +80,38 @@ impl Judge for Late {
     }
 }
 
-#[test]
-fn the_plain_search_finds_the_one_open_cell(rt: HostRuntime) -> Result<(), Fail> {
-    let judge = Threshold {
-        root: root_at(100_000, 0),
-        point: Point::new(12_800_000, 0, 1),
-    };
-    let harvest = search_plain(rt.alloc(), &judge)?;
-    assert_eq!(rt; harvest.refuted_rank(0), Some(99));
-    let mut above = 0u64;
-    let mut open = None;
-    for i in 0..harvest.leaf_count() {
-        let leaf = harvest.leaf(i);
-        if leaf.task.cell.last > 99 {
-            above = above.wrapping_add(1);
-        }
-        if let Verdict::Open(_) = leaf.verdict {
-            assert_eq!(rt; open, None);
-            open = Some(leaf.task.cell);
-        }
-    }
-    let smallest = Cell {
-        x: 12_800_000,
-        y: 0,
-        size: 4,
-        first: 100,
-        last: 100,
-    };
-    assert_eq!(rt; open, Some(smallest));
-    assert_eq!(rt; above, 81);
-    Ok(())
+/// For problem `k` of seven it refutes the ranks below `100 * k` and proves the others.
+#[derive(Drop)]
+pub struct Steps {
+    pub root: Cell,
+    pub point: Point,
+    pub ghost is_root: { IsRoot root },
 }
 
-#[test]
-fn the_plain_search_leaves_out_what_a_refuted_rank_covers(rt: HostRuntime) -> Result<(), Fail> {
-    let judge = Late {
-        root: root_at(100_000, 0),
-        point: Point::new(12_800_000, 0, 1),
-        judged: AtomicU64::new(0),
-    };
-    let harvest = search_plain(rt.alloc(), &judge)?;
-    assert_eq!(rt; harvest.refuted_rank(0), Some(720));
-    assert_eq!(rt; judge.judged.load(Ordering::SeqCst), 2);
-    Ok(())
+impl Judge for Steps {
+    ghost use Rattle.search_tests.specs.Steps.{steps};
+    ghost use Rattle.search_tests.specs.StepLaws.{steps_lawful};
+
+    ghost content = { λ j. steps j.root j.point };
+
+    ghost lawful = { λ j. steps_lawful j.root j.point j.is_root };
+
+    fn problems(&self) -> u32 {
+        7
+    }
+
+    fn root(&self) -> Cell {
+        self.root
+    }
+
+    fn judge(&self, t: Task) -> Verdict {
+        let step = 100 * t.problem;
+        if t.cell.last < step {
+            Verdict::Refuted(self.point)
+        } else if step <= t.cell.first {
+            Verdict::Proved
+        } else {
+            Verdict::Split
+        }
+    }
 }

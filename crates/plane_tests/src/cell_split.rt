@@ -4,7 +4,7 @@ ghost use Rattle.std.specs.Prelude.{◌≡◌, pos};
 ghost use Rattle.cell_split.specs.Cells.{root_at};
 ghost use Rattle.cell_split.specs.declared.verdict.Verdict.TheVariants.{Outside};
 
-use crate::{
+use cell_split::{
     Cell, Children, Judge, Task, Verdict, children, is_smallest, key, rect_of, root_at, within,
 };
 use std::process::Abort;

@@ -1,7 +1,8 @@
+// Ranks that threads share.
 ghost use Rattle.std.specs.Prelude.{◌≡◌, ◌≤◌};
 ghost use Rattle.bound_word.specs.Bounds.{count_of, content_of, IsSeatOf};
 
-use crate::{Bound, BoundSeat, Fact, State};
+use bound_word::{Bound, BoundSeat, Fact, State};
 use std::test::Fail;
 use std::thread::join;
 

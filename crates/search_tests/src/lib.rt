@@ -1,0 +1,10 @@
+// Tests of the crates that search a judge's trees, a module a crate.
+// Contract: none; the crate has tests alone.
+#![tactic(auto)]
+
+#[cfg(test)]
+mod bound_word;
+#[cfg(test)]
+mod judges;
+#[cfg(test)]
+mod steal_pool;
