@@ -3,5 +3,6 @@ pub mod Greatest
 pub mod Harvested
 pub mod Parts
 pub mod Refuting
+pub mod Running
 pub mod Spelling
 pub mod Walking

@@ -4,3 +4,5 @@ pub mod Seeks
 pub mod Entries
 pub mod Settles
 pub mod Laws
+pub mod Runs
+pub mod Lines

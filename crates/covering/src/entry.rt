@@ -70,8 +70,9 @@ fn later(known: Option<u32>, rank: u32) -> u32
     }
 }
 
-// the entry of this refuted rank, where this is the first open leaf
-fn entry_by(refuted: Option<u32>, first: Option<Leaf>) -> Entry
+/// The entry of a refuted rank, `None` for none, where this is the first open leaf of the greatest open rank
+/// above it.
+pub fn entry_by(refuted: Option<u32>, first: Option<Leaf>) -> Entry
     requires refuted { word_of refuted ≤ 721 }
     requires first { IfSome first (λ l. last_word l ≤ 721) }
     ensures { result ≡ entry_by (word_of refuted) first }

@@ -56,7 +56,7 @@ fn write_letters_below<J: Judge>(
 }
 
 /// Whether the cell's last rank is at most the refuted rank.
-pub(crate) fn is_cut(cell: &Cell, refuted: Option<u32>) -> bool
+pub fn is_cut(cell: &Cell, refuted: Option<u32>) -> bool
     ensures { result ≡ nat_lt cell.now.last (word_of refuted) }
 {
     match refuted {
@@ -75,7 +75,8 @@ fn write_letter(verdict: Verdict, letters: &mut Vec<u8>) -> Result<(), NoMemory>
     Ok(())
 }
 
-fn letter_of(verdict: Verdict) -> Option<u8>
+/// The letter of a cell that isn't cut; none for a refuted one.
+pub fn letter_of(verdict: Verdict) -> Option<u8>
     ensures { result ≡ letter_of verdict }
 {
     match verdict {

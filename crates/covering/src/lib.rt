@@ -6,12 +6,16 @@ mod entry;
 mod laws;
 mod leaf_walk;
 mod letter_walk;
+mod line;
+mod runs;
 mod settled;
 mod settling;
 #[cfg(test)]
 mod tests;
 
-pub use entry::entry_of;
+pub use entry::{entry_by, entry_of};
 pub use laws::letters_are_those_of_the_children;
+pub use letter_walk::{is_cut, letter_of};
+pub use line::{cover_line, cover_line_1};
 pub use settled::{Letters, Settled};
 pub use settling::settle;

@@ -30,6 +30,17 @@ impl Letters {
     {
         self.letters.as_slice()
     }
+
+    /// The same as a text.
+    pub(crate) fn as_str(&self) -> &str
+        requires { list_all is_letter self.now ≡ true }
+        ensures { result.now ≡ self.now }
+    {
+        match str::from_utf8(self.as_bytes()) {
+            Ok(text) => text,
+            Err(_) => unreachable!(),
+        }
+    }
 }
 
 /// What is settled of the tree of one problem.
