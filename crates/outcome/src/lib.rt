@@ -1,0 +1,11 @@
+// How a run of the program ends, and what it did to its streams.
+// Contract: the status, text and line of an answer; what a call that writes a text did to the output.
+#![tactic(auto)]
+
+mod ending;
+mod status;
+mod stop;
+
+pub use ending::{Ending, ending_of};
+pub use status::Status;
+pub use stop::Stop;
