@@ -1,0 +1,4 @@
+pub mod TextLemmas
+pub mod DayLemmas
+pub mod RightLemmas
+pub mod TableLemmas

@@ -1,0 +1,16 @@
+use Rattle.std.proofs.Common.{◌≡◌, ◌≤◌, ◌*◌, map, take}
+use Rattle.source_sink.specs.Outside.{Adds}
+use Rattle.order_table.specs.Made.{searched}
+use Rattle.order_table.specs.Table.{days_text, days_undecided}
+use Rattle.order_table.proofs.table.search_days.Given as goal
+
+-- the lines of the days so far are written, and their undecided entries counted
+abbrev pub invariant-loop-day : goal.invariant-loop-day
+invariant-loop-day g l = record {
+  district : l.sky.district ≡ l.fn.sky.district;
+  root : l.sky.root ≡ l.fn.sky.root;
+  count : l.undecided ≡ days_undecided (map (searched l.fn.sky.district l.fn.sky.root) (take l.day-index l.days));
+  few : l.undecided ≤ 7 * l.day-index;
+  later : g.K.Sink.faults l.fn.out ≤ g.K.Sink.faults l.out;
+  written : Adds (g.K.Sink.held l.fn.out) (g.K.Sink.held l.out) (days_text (map (searched l.fn.sky.district l.fn.sky.root) (take l.day-index l.days)));
+}

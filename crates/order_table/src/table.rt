@@ -1,0 +1,168 @@
+// The table of an order, searched and written day by day.
+ghost use Rattle.std.specs.Prelude.{◌≡◌, ◌<◌, ◌≤◌, ◌++◌, length, map, IfOk, All};
+ghost use Rattle.cell_judge.specs.Skies.{sky_content};
+ghost use Rattle.method_table.specs.Row.{row_of};
+ghost use Rattle.order_reader.specs.Asked.{asked_of};
+ghost use Rattle.order_table.specs.Made.{day_of, searched};
+ghost use Rattle.order_table.specs.Printing.{IsPrintable};
+ghost use Rattle.order_table.specs.Ready.{found_in, front_of};
+ghost use Rattle.order_table.specs.RightTable.{IsRightTable};
+ghost use Rattle.order_table.specs.Table.{day_found, day_text, day_undecided, days_text, days_undecided};
+ghost use Rattle.order_table.specs.Trees.{entries_of, entry_at, judge_of, table_of, undecided};
+ghost use Rattle.outcome.specs.Writing.{Writes};
+ghost use Rattle.steal_pool.specs.Harvests.{IsHarvest};
+ghost use Rattle.year_table.specs.Lines.{end_line};
+ghost use Rattle.year_table.specs.declared.head.SunChoice.TheVariants.{Usno};
+
+use crate::day::Day;
+use crate::ready::{Ready, prepare};
+use crate::text::{day_text, open_count};
+use cell_judge::Sky;
+use cell_split::Entry;
+use covering::entry_of;
+use no_memory::NoMemory;
+use order_reader::Order;
+use outcome::Stop;
+use source_sink::{Sink, write_all};
+use std::alloc::Global;
+use steal_pool::{Harvest, search_plain};
+use year_table::end_line;
+
+/// The entry of a column on a day, from the harvest of a search for the sky that is turned to it.
+fn entry_in(sky: &Sky, harvest: &Harvest, day: &Day, column: u32) -> Entry
+    requires day { sky.now.problems ≡ day.now.problems }
+    requires harvest { IsHarvest (sky_content sky.now.district (map row_of sky.now.problems) sky.now.root) harvest.now.refuted harvest.now.leaves }
+    requires column { column < 7 }
+    ensures value { result ≡ entry_at (judge_of Usno sky.now.district sky.now.root (map row_of day.now.problems)) column }
+    ensures printable { IsPrintable result }
+{
+    entry_of(sky, harvest, column)
+}
+
+/// The entries of a day, each by a search of its whole tree; the sky is turned to that day.
+pub fn day_entries(alloc: Global, sky: &mut Sky, day: &Day) -> Result<[Entry; 7], NoMemory>
+    ensures entries { IfOk result (λ entries. entries ≡ entries_of Usno sky.old.district sky.old.root (map row_of day.now.problems)) }
+    ensures printable { IfOk result (All IsPrintable) }
+    ensures district { sky.new.district ≡ sky.old.district }
+    ensures root { sky.new.root ≡ sky.old.root }
+{
+    sky.turn_to(day.problems);
+    let harvest = search_plain(alloc, sky)?;
+    Ok([
+        entry_in(sky, &harvest, day, 0),
+        entry_in(sky, &harvest, day, 1),
+        entry_in(sky, &harvest, day, 2),
+        entry_in(sky, &harvest, day, 3),
+        entry_in(sky, &harvest, day, 4),
+        entry_in(sky, &harvest, day, 5),
+        entry_in(sky, &harvest, day, 6),
+    ])
+}
+
+/// Writes the lines of a day with these entries; answers how many of them are undecided.
+pub fn write_day<K: Sink>(
+    alloc: Global,
+    day: &Day,
+    entries: &[Entry; 7],
+    out: &mut K,
+) -> Result<u32, Stop>
+    requires { All IsPrintable entries.now }
+    ensures writes { Writes (day_text (day_found (day_of day.now) entries.now)) result
+        (K.faults out.old) (K.faults out.new) (K.held out.old) (K.held out.new) }
+    ensures count { IfOk result (λ count. count ≡ day_undecided (day_found (day_of day.now) entries.now)) }
+    ensures few { IfOk result (λ count. count ≤ 7) }
+{
+    let Ok(text) = day_text(alloc, day, entries) else {
+        return Err(Stop::NoMemory);
+    };
+    match write_all(out, &text) {
+        Ok(()) => Ok(open_count(entries)),
+        Err(_) => Err(Stop::WriteFault),
+    }
+}
+
+/// Searches a day and writes its lines; answers how many of its entries are undecided.
+#[tactic(auto, unfolding(crate::specs::Made::searched))]
+fn search_day<K: Sink>(alloc: Global, sky: &mut Sky, day: &Day, out: &mut K) -> Result<u32, Stop>
+    ensures writes { Writes (day_text (searched sky.old.district sky.old.root day.now)) result
+        (K.faults out.old) (K.faults out.new) (K.held out.old) (K.held out.new) }
+    ensures count { IfOk result (λ count. count ≡ day_undecided (searched sky.old.district sky.old.root day.now)) }
+    ensures few { IfOk result (λ count. count ≤ 7) }
+    ensures district { sky.new.district ≡ sky.old.district }
+    ensures root { sky.new.root ≡ sky.old.root }
+{
+    let Ok(entries) = day_entries(alloc, sky, day) else {
+        return Err(Stop::NoMemory);
+    };
+    write_day(alloc, day, &entries, out)
+}
+
+/// Searches the days and writes their lines; answers how many of their entries are undecided.
+fn search_days<K: Sink>(
+    alloc: Global,
+    sky: &mut Sky,
+    days: &[Day],
+    out: &mut K,
+) -> Result<u32, Stop>
+    requires few { length days.now ≤ 366 }
+    ensures writes { Writes (days_text (map (searched sky.old.district sky.old.root) days.now)) result
+        (K.faults out.old) (K.faults out.new) (K.held out.old) (K.held out.new) }
+    ensures count { IfOk result (λ count. count ≡ days_undecided (map (searched sky.old.district sky.old.root) days.now)) }
+{
+    let mut undecided = 0;
+    for day in days {
+        match search_day(alloc, sky, day, out) {
+            Ok(count) => undecided += count,
+            Err(stop) => return Err(stop),
+        }
+    }
+    Ok(undecided)
+}
+
+/// Writes the head, and searches and writes the days behind it; answers how many of their entries are undecided.
+fn write_front<K: Sink>(alloc: Global, ready: &mut Ready, out: &mut K) -> Result<u32, Stop>
+    requires few { length ready.old.days.items ≤ 366 }
+    ensures writes { Writes (front_of ready.old) result
+        (K.faults out.old) (K.faults out.new) (K.held out.old) (K.held out.new) }
+    ensures count { IfOk result (λ count. count ≡ days_undecided (found_in ready.old)) }
+{
+    match write_all(out, &ready.head) {
+        Ok(()) => search_days(alloc, &mut ready.sky, &ready.days, out),
+        Err(_) => Err(Stop::WriteFault),
+    }
+}
+
+/// Writes the last line of a table of so many days and undecided entries.
+pub fn write_end<K: Sink>(alloc: Global, days: u32, undecided: u32, out: &mut K) -> Result<(), Stop>
+    ensures { Writes (end_line days undecided) result
+        (K.faults out.old) (K.faults out.new) (K.held out.old) (K.held out.new) }
+{
+    let Ok(line) = end_line(alloc, days, undecided) else {
+        return Err(Stop::NoMemory);
+    };
+    match write_all(out, &line) {
+        Ok(()) => Ok(()),
+        Err(_) => Err(Stop::WriteFault),
+    }
+}
+
+/// Writes the table of an order; answers how many of its entries are undecided.
+pub fn write_table<K: Sink>(alloc: Global, order: Order, out: &mut K) -> Result<u32, Stop>
+    ensures writes { Writes (table_of (asked_of order)) result
+        (K.faults out.old) (K.faults out.new) (K.held out.old) (K.held out.new) }
+    ensures count { IfOk result (λ count. count ≡ undecided (asked_of order)) }
+    ensures right { IsRightTable (asked_of order) }
+{
+    let days = order.days;
+    let Ok(mut ready) = prepare(alloc, order) else {
+        return Err(Stop::NoMemory);
+    };
+    let undecided = match write_front(alloc, &mut ready, out) {
+        Ok(undecided) => undecided,
+        Err(stop) => return Err(stop),
+    };
+    match write_end(alloc, days, undecided, out) {
+        Ok(()) => Ok(undecided),
+        Err(stop) => Err(stop),
+    }
+}
