@@ -1,6 +1,6 @@
 -- A box beyond a district's extent names no place.
 use Rattle.std.proofs.Common.{◌≡◌, ℕ, ◌*◌, ◌^◌, ◌≤◌, Some, None, refl, ap, arith}
-use Rattle.std.specs.Prelude.{ℤ, pos, ◌+ℤ◌, ◌*ℤ◌, ◌≤ℤ◌, ◌<ℤ◌, List, Option, IsFalse, IsTrue, MatchOption}
+use Rattle.std.specs.Prelude.{pos, ◌+ℤ◌, ◌*ℤ◌, ◌<ℤ◌, List, Option, IsFalse, IsTrue, MatchOption}
 use Rattle.std.proofs.lemmas.Int.{ints}
 use Rattle.region.specs.Extent.{latitudes, longitudes, greatest}
 use Rattle.region.specs.Faults.{first_fault}

@@ -10,7 +10,9 @@ pub mod SkyLaws
 pub mod TruthLemmas
 pub mod VerdictLemmas
 pub mod StripLemmas
+pub mod EachLemmas
 pub mod TileLemmas
+pub mod SineLemmas
 pub mod TableLemmas
 pub mod BeyondLemmas
 pub mod DayLaws

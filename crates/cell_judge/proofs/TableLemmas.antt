@@ -1,9 +1,8 @@
 -- The tables of the places that are named for a root's tiles: how they are made, and what is read of them.
-use Rattle.std.proofs.Common.{◌≡◌, ℕ, ◌+◌, ◌-◌, ◌*◌, ◌^◌, ◌<◌, ◌≤◌, List, length, get_or, refl, sym, ap, subst, ◌∙◌, arith}
+use Rattle.std.proofs.Common.{◌≡◌, ℕ, ◌+◌, ◌-◌, ◌*◌, ◌^◌, ◌<◌, ◌≤◌, List, length, get_or, sym, ap, subst, ◌∙◌, arith}
 use Rattle.std.specs.Prelude.{pos, ◌+ℤ◌, Option, None}
 use Rattle.std.specs.Option.{option_map}
 use Rattle.std.specs.declared.vec.Vec.{Vec}
-use Rattle.std.proofs.lemmas.Option.{slice_get_read}
 use Rattle.region.specs.declared.points.Point.{Point}
 use Rattle.region.specs.Faults.{first_fault}
 use Rattle.region.specs.Named.{named}
@@ -13,7 +12,9 @@ use Rattle.region.specs.Views.{place_of}
 use Rattle.cell_split.specs.declared.cell.Cell.{Cell}
 use Rattle.cell_split.specs.Cells.{IsCellOf, IsRoot}
 use Rattle.cell_split.specs.Laws.{box_of}
-use Rattle.cell_judge.specs.Tiles.{AreNamedInRow, AreNamedInRows, AreTables, Each, IsNamedFor, eastward, northward, parts, tile}
+use Rattle.cell_judge.specs.Each.{Each}
+use Rattle.cell_judge.specs.Tiles.{AreNamedInRow, AreNamedInRows, AreTables, IsNamedFor, eastward, northward, parts, tile}
+use Rattle.cell_judge.proofs.EachLemmas.{read}
 use Rattle.cell_judge.proofs.BeyondLemmas.{none_above, none_beside}
 
 -- the place that is asked for a tile
@@ -28,10 +29,6 @@ named_for polygons root size row column count east north cell box p box_is cell_
       ∙ ap (λ (n : ℕ). box_of (record { x = root.x +ℤ pos (column * 2 ^ size); y = root.y +ℤ pos n; size = size; first = 0; last = 720 })) north_is
       ∙ ap (λ (n : ℕ). box_of (tile root size n row)) (sym same));
 }
-
--- an element that was read
-read : {A : Type 0} (P : ℕ → A → Type 0) (xs : List A) (n : ℕ) (x : A) → Each P xs → n < length xs → x ≡ get_or xs n x → P n x
-read P xs n x each inside is = each.at n x (slice_get_read xs (length xs) n x refl inside is)
 
 module _ {Z : Type 0} (polygons : List Polygon) (root cell : Cell) (column row : ℕ) where
   pub rows_read : (least : ℕ) (tables : List (Vec (Vec (Option Point) Z) Z)) (rows : Vec (Vec (Option Point) Z) Z)

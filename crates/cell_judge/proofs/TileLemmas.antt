@@ -1,19 +1,15 @@
 -- The tiles of a root: their arithmetic, and the tables of the places that are named for them.
-use Rattle.std.proofs.Common.{◌≡◌, ℕ, suc, ◌+◌, ◌-◌, ◌*◌, ◌/◌, ◌%◌, ◌^◌, ◌<◌, ◌≤◌, List, [], ◌∷◌, ◌++◌, length, length-append, get_or, Some, ◌⊎◌, inl, inr, sym, ap, subst, ◌∙◌, arith}
+use Rattle.std.proofs.Common.{◌≡◌, ℕ, ◌+◌, ◌-◌, ◌*◌, ◌/◌, ◌^◌, ◌<◌, ◌≤◌, List, [], ◌∷◌, length, sym, ap, ◌∙◌, arith}
 use Rattle.std.specs.Prelude.{ℤ, pos, ◌+ℤ◌, ◌-ℤ◌, ◌≤ℤ◌, min}
-use Rattle.std.specs.List.{slice_get}
 use Rattle.std.proofs.Math.Nat.{lt_of_mul-lt-mul_right, mul-le-mul_right}
 use Rattle.std.proofs.lemmas.Int.{ints}
 use Rattle.std.proofs.lemmas.Nat.{pow-add, pow_pos, div-add-mod'}
-use Rattle.std.proofs.lemmas.Bool.{cases_lt}
-use Rattle.std.proofs.lemmas.List.{get_or_append_left, get_or_at}
-use Rattle.std.proofs.lemmas.Option.{get_or_from_slice_get, slice_get-get_or, slice_get_within}
 use Rattle.region.specs.Extent.{least, greatest}
 use Rattle.region.proofs.Reach.{all_in}
 use Rattle.cell_split.specs.declared.cell.Cell.{Cell}
 use Rattle.cell_split.specs.Cells.{side}
 use Rattle.cell_split.specs.Laws.{box_of}
-use Rattle.cell_judge.specs.Tiles.{Each, parts, tile}
+use Rattle.cell_judge.specs.Tiles.{parts, tile}
 
 -- the tiles of a row make the root's side
 row_is_whole : (size : ℕ) → size ≤ 29 → 2 ^ (29 - size) * 2 ^ size ≡ 2 ^ 29
@@ -48,22 +44,6 @@ is_tile root cell column row east north column_is east_is row_is north_is =
     let x : cell.x ≡ root.x +ℤ pos (column * 2 ^ cell.size) = omega (arith, ints, column_is, east_is) in
     let y : cell.y ≡ root.y +ℤ pos (row * 2 ^ cell.size) = omega (arith, ints, row_is, north_is) in
     λ i. record { x0 = x i; x1 = x i +ℤ side cell; y0 = y i; y1 = y i +ℤ side cell }
-
--- one more element
-pub each_more : {A : Type 0} (P : ℕ → A → Type 0) (xs : List A) (x : A) → Each P xs → P (length xs) x → Each P (xs ++ x ∷ [])
-each_more {A} P xs x before here = record {
-  at = λ n y found. by_lt n y found (cases_lt n (length xs));
-}
-  where
-    by_lt : (n : ℕ) (y : A) → slice_get (xs ++ x ∷ []) n ≡ Some y → (n < length xs) ⊎ (length xs ≤ n) → P n y
-    by_lt n y found (inl earlier) =
-        let is = get_or_from_slice_get (xs ++ x ∷ []) n y y found in
-        before.at n y (slice_get-get_or xs n y earlier ∙ ap Some (sym (get_or_append_left xs (x ∷ []) y n earlier) ∙ is))
-    by_lt n y found (inr later) =
-        let inside = slice_get_within (xs ++ x ∷ []) n y found in
-        let last : length xs ≡ n = omega (arith, length-append xs (x ∷ [])) in
-        let same : x ≡ y = sym (get_or_at xs x [] y n last) ∙ get_or_from_slice_get (xs ++ x ∷ []) n y y found in
-        subst (P n) same (subst (λ (k : ℕ). P k x) last here)
 
 -- of the numbers of a list the least is at most the greatest
 pub least_at_most : (zs : List ℤ) → least zs ≤ℤ greatest zs

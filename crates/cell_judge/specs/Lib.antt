@@ -5,7 +5,9 @@ pub mod EntryLaws
 pub mod Limits
 pub mod Points
 pub mod Strips
+pub mod Each
 pub mod Tiles
+pub mod Sines
 pub mod Skies
 pub mod Lawful
 pub mod SkyLaws

@@ -1,7 +1,6 @@
 -- The large boxes of a root, in columns from its west side and rows from its south side. Those that begin within a
 -- district's reach are asked once for the place that is named for them.
-use Rattle.std.specs.Prelude.{◌≡◌, ℕ, ◌+◌, ◌-◌, ◌*◌, ◌/◌, ◌^◌, min, pos, ◌+ℤ◌, ◌-ℤ◌, ◌*ℤ◌, unsigned_abs, List, length, Option, Some}
-use Rattle.std.specs.List.{slice_get}
+use Rattle.std.specs.Prelude.{◌≡◌, ℕ, ◌+◌, ◌-◌, ◌*◌, ◌/◌, ◌^◌, min, pos, ◌+ℤ◌, ◌-ℤ◌, ◌*ℤ◌, unsigned_abs, List, length, Option}
 use Rattle.std.specs.Option.{option_map}
 use Rattle.std.specs.declared.vec.Vec.{Vec}
 use Rattle.region.specs.declared.points.Point.{Point}
@@ -11,6 +10,7 @@ use Rattle.region.specs.Named.{named}
 use Rattle.region.specs.Views.{place_of}
 use Rattle.cell_split.specs.declared.cell.Cell.{Cell}
 use Rattle.cell_split.specs.Laws.{box_of}
+use Rattle.cell_judge.specs.Each.{Each}
 
 -- how far a district reaches from the root's corner, to the east and to the north, short of the root's other sides
 abbrev pub eastward : Cell → List Polygon → ℕ
@@ -32,10 +32,6 @@ tile root size column row = record {
   first = 0;
   last = 720;
 }
-
--- each element of the list is as its number asks
-pub record Each {A : Type 0} (P : ℕ → A → Type 0) (xs : List A) : Type 0 where
-  pub at : (n : ℕ) (x : A) → slice_get xs n ≡ Some x → P n x
 
 -- the place is the one that is named for the tile in this row and column
 pub record IsNamedFor (polygons : List Polygon) (root : Cell) (size row column : ℕ) (p : Option Point) : Type 0 where

@@ -6,13 +6,16 @@ ghost use Rattle.region.specs.Extent.{latitudes, least, longitudes};
 ghost use Rattle.cell_split.specs.Cells.{IsCell, IsRoot, root_at};
 ghost use Rattle.cell_judge.specs.Limits.{AreInLimits, IsInLimits, IsOver};
 ghost use Rattle.cell_judge.specs.Made.{IsSkyOf};
+ghost use Rattle.cell_judge.specs.Sines.{IsSineOf};
 ghost use Rattle.cell_judge.specs.Skies.{verdict_with};
 
+use crate::sines::sines_of;
 use crate::sky::Sky;
 use crate::tiles::large_places;
 use crate::values::{minutes_at, places_at, value};
 use crate::verdicts::verdict_at;
 use cell_split::{Cell, Judge, Task, Verdict, rect_of, root_at};
+use fixed_interval::Interval;
 use method_table::Problem;
 use no_memory::NoMemory;
 use region::{District, Point};
@@ -56,11 +59,13 @@ impl Sky {
     {
         let strips = district.strips(alloc, root.y)?;
         let large = large_places(alloc, &district, &root)?;
+        let sines = sines_of(&problems);
         Ok(Sky {
             district,
             strips,
             large,
             problems,
+            sines,
             root,
         })
     }
@@ -70,6 +75,7 @@ impl Sky {
         requires { AreInLimits problems }
         ensures { IsSkyOf self.old.district problems self.old.root self.new }
     {
+        self.sines = sines_of(&problems);
         self.problems = problems;
     }
 
@@ -90,13 +96,14 @@ impl Sky {
 }
 
 // The verdict on a cell whose box has the place `p` of the district.
-fn verdict_for(problem: &Problem, cell: &Cell, p: Point) -> Verdict
+fn verdict_for(problem: &Problem, sine: Interval, cell: &Cell, p: Point) -> Verdict
+    requires sine { IsSineOf problem.now.kind sine }
     requires cell { IsCell cell.now }
     requires limits { IsInLimits (row_of problem.now) }
     ensures { result ≡ verdict_with grid_sun (row_of problem.now) cell.now p }
 {
     let minutes = minutes_at(problem, cell);
-    let value = value(problem.kind, minutes, places_at(cell));
+    let value = value(problem.kind, minutes, places_at(cell), sine);
     verdict_at(problem.kind, value, cell, p)
 }
 
@@ -119,8 +126,9 @@ impl Judge for Sky {
     }
 
     fn judge(&self, t: Task) -> Verdict {
+        let k = t.problem as usize;
         match self.named(&t.cell) {
-            Some(p) => verdict_for(&self.problems[t.problem as usize], &t.cell, p),
+            Some(p) => verdict_for(&self.problems[k], self.sines[k], &t.cell, p),
             None => Verdict::Outside,
         }
     }

@@ -5,6 +5,7 @@
 mod judge;
 pub mod laws;
 mod named;
+mod sines;
 mod sky;
 mod tiles;
 mod values;

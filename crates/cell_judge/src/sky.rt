@@ -3,10 +3,12 @@ ghost use Rattle.std.proofs.Props.{props};
 ghost use Rattle.region.specs.Strips.{AreStripsOf};
 ghost use Rattle.cell_split.specs.Cells.{IsRoot};
 ghost use Rattle.cell_judge.specs.Limits.{AreInLimits, IsOver};
+ghost use Rattle.cell_judge.specs.Sines.{AreSinesOf};
 ghost use Rattle.cell_judge.specs.Tiles.{AreTables};
 
 use crate::tiles::Tables;
 use cell_split::Cell;
+use fixed_interval::Interval;
 use method_table::Problem;
 use region::{District, Strips};
 
@@ -19,10 +21,13 @@ pub struct Sky {
     /// The places that are named for the large boxes of the root.
     pub(crate) large: Tables,
     pub(crate) problems: [Problem; 7],
+    /// The sine of each problem's angles.
+    pub(crate) sines: [Interval; 7],
     pub(crate) root: Cell,
     pub ghost is_root: { IsRoot root },
     ghost strips_are: { AreStripsOf district root.y strips },
     ghost large_are: { AreTables district root large.least large.places.items } by { Prim.hlevel props },
     pub ghost is_over: { IsOver root district },
+    ghost sines_are: { AreSinesOf problems sines },
     pub ghost in_limits: { AreInLimits problems },
 }

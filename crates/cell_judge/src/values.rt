@@ -1,24 +1,22 @@
 // The enclosure of a condition's value over a cell.
-ghost use Rattle.std.specs.Prelude.{◌≡◌, ◌≤◌, pos, ◌≤ℤ◌};
+ghost use Rattle.std.specs.Prelude.{◌≡◌, ◌≤◌};
 ghost use Rattle.fixed_interval.specs.Interval.{ends};
-ghost use Rattle.trig_series.specs.Angle.{range_of};
 ghost use Rattle.solar_terms.specs.Sun.{grid_sun, minutes_of};
 ghost use Rattle.altitude_test.specs.Values.{box_of};
-ghost use Rattle.method_table.specs.Kind.{IsAngleRange, IsKind};
+ghost use Rattle.method_table.specs.Kind.{IsKind};
 ghost use Rattle.method_table.specs.Row.{row_of, time_of};
 ghost use Rattle.cell_split.specs.Cells.{IsCell};
-ghost use Rattle.cell_judge.specs.Conditions.{angles};
 ghost use Rattle.cell_judge.specs.Limits.{IsInLimits};
+ghost use Rattle.cell_judge.specs.Sines.{IsSineOf};
 ghost use Rattle.cell_judge.specs.Skies.{grid_value, minutes_at, places_at};
 
-use altitude_test::{Place, altitude_value, meridian_value};
+use altitude_test::{Place, altitude_sine, meridian_value};
 use asr_test::asr_value;
 use cell_split::{Cell, rect_of};
 use fixed_interval::Interval;
 use method_table::{Kind, Problem, Side, minute_of};
 use solar_terms::Minutes;
 use solar_terms::observatory::sun;
-use trig_series::Angle;
 
 // The minute of a rank, since 2000-01-01 12:00 Universal Time.
 fn time_of(problem: &Problem, rank: u32) -> i64
@@ -52,25 +50,17 @@ pub(crate) fn places_at(cell: &Cell) -> Place
     Place::new(r.x0, r.x1, r.y0, r.y1)
 }
 
-fn angles(low: i64, high: i64) -> Angle
-    requires { IsAngleRange low high }
-    ensures value { range_of result ≡ angles low high }
-    ensures low { pos 0 ≤ℤ result.lo }
-    ensures high { result.hi ≤ℤ pos 4320000000000 }
-{
-    Angle::new(i128::from(low), i128::from(high))
-}
-
-/// The enclosure of a kind's value over the minutes and the places.
-#[tactic(auto, unfolding(crate::specs::Skies::grid_value))]
-pub(crate) fn value(kind: Kind, minutes: Minutes, places: Place) -> Interval
-    requires { IsKind kind }
+/// The enclosure of a kind's value over the minutes and the places, with the sine of its angles.
+#[tactic(auto, unfolding(crate::specs::Skies::grid_value, altitude_test::specs::Values::grid_altitude_value))]
+pub(crate) fn value(kind: Kind, minutes: Minutes, places: Place, sine: Interval) -> Interval
+    requires kind { IsKind kind }
+    requires sine { IsSineOf kind sine }
     ensures { ends result ≡ grid_value grid_sun kind (minutes_of minutes) (box_of places) }
 {
     let sun = sun(minutes);
     match kind {
-        Kind::Above { low, high } => altitude_value(&sun, minutes, places, angles(low, high)),
-        Kind::Below { low, high } => altitude_value(&sun, minutes, places, angles(low, high)),
+        Kind::Above { .. } => altitude_sine(&sun, minutes, places).sum(sine),
+        Kind::Below { .. } => altitude_sine(&sun, minutes, places).sum(sine),
         Kind::Past => meridian_value(&sun, minutes, places),
         Kind::Shadow { factor } => asr_value(&sun, minutes, places, factor),
     }

@@ -1,6 +1,6 @@
-use Rattle.std.proofs.Common.{ℕ, ◌+◌, subst, sym, arith}
+use Rattle.std.proofs.Common.{◌+◌, arith}
 use Rattle.cell_judge.specs.Tiles.{AreNamedInRows}
-use Rattle.cell_judge.proofs.TileLemmas.{each_more}
+use Rattle.cell_judge.proofs.EachLemmas.{each_more}
 use Rattle.cell_judge.proofs.tiles.large_places.Goals as goal
 
 pub loop-size-preserved : goal.loop-size-preserved

@@ -1,5 +1,6 @@
-use Rattle.std.proofs.Common.{◌≡◌, ◌+◌, ◌≤◌, length}
-use Rattle.cell_judge.specs.Tiles.{AreNamedInRows, Each}
+use Rattle.std.proofs.Common.{◌≡◌, ◌+◌, length}
+use Rattle.cell_judge.specs.Each.{Each}
+use Rattle.cell_judge.specs.Tiles.{AreNamedInRows}
 use Rattle.cell_judge.proofs.tiles.large_places.Given as goal
 
 -- the tables of the sizes before this one

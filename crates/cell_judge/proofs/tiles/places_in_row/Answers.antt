@@ -1,7 +1,7 @@
 use Rattle.std.proofs.Common.{arith}
 use Rattle.cell_judge.specs.Tiles.{IsNamedFor}
 use Rattle.cell_judge.proofs.StripLemmas.{box_is}
-use Rattle.cell_judge.proofs.TileLemmas.{each_more}
+use Rattle.cell_judge.proofs.EachLemmas.{each_more}
 use Rattle.cell_judge.proofs.TableLemmas.{named_for}
 use Rattle.cell_judge.proofs.tiles.places_in_row.Goals as goal
 

@@ -1,5 +1,6 @@
 use Rattle.std.proofs.Common.{◌≡◌, length}
-use Rattle.cell_judge.specs.Tiles.{Each, IsNamedFor, parts}
+use Rattle.cell_judge.specs.Each.{Each}
+use Rattle.cell_judge.specs.Tiles.{IsNamedFor, parts}
 use Rattle.cell_judge.proofs.tiles.places_in_row.Given as goal
 
 -- the places of the tiles to the west of this one

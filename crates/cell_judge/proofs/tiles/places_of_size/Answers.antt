@@ -1,6 +1,6 @@
 use Rattle.std.proofs.Common.{arith}
 use Rattle.cell_judge.specs.Tiles.{AreNamedInRow}
-use Rattle.cell_judge.proofs.TileLemmas.{each_more}
+use Rattle.cell_judge.proofs.EachLemmas.{each_more}
 use Rattle.cell_judge.proofs.tiles.places_of_size.Goals as goal
 
 pub loop-row-preserved : goal.loop-row-preserved

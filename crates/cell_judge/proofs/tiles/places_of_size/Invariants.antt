@@ -1,5 +1,6 @@
 use Rattle.std.proofs.Common.{◌≡◌, length}
-use Rattle.cell_judge.specs.Tiles.{AreNamedInRow, Each, northward, parts}
+use Rattle.cell_judge.specs.Each.{Each}
+use Rattle.cell_judge.specs.Tiles.{AreNamedInRow, northward, parts}
 use Rattle.cell_judge.proofs.tiles.places_of_size.Given as goal
 
 -- the rows to the south of this one

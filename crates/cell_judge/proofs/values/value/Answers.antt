@@ -1,18 +1,22 @@
-use Rattle.std.proofs.Common.{FitsSigned, w64}
-use Rattle.std.proofs.lemmas.Int.{to_z-of_z}
-use Rattle.cell_judge.proofs.AngleLemmas.{high_fits, low_fits}
+use Rattle.cell_judge.proofs.SineLemmas.{sum_fits}
 use Rattle.cell_judge.proofs.values.value.Goals as goal
 
-pub angles-requires : goal.angles-requires
-angles-requires c =
-    let range = c.requires.above c.in-Above.low c.in-Above.high c.in-Above.is in
-    let low : FitsSigned w64 c.in-Above.low = low_fits _ _ range in
-    let high : FitsSigned w64 c.in-Above.high = high_fits _ _ range in
-    simp to_z-of_z range
+pub sum-requires-clause-low_in_range : goal.sum-requires-clause-low_in_range
+sum-requires-clause-low_in_range c =
+    let sine = c.requires.sine.above c.in-Above.low c.in-Above.high c.in-Above.is in
+    (sum_fits c.altitude_sine.result c.args.sine c.altitude_sine.ensures.bound sine.small).low
 
-pub angles-requires-in-Below : goal.angles-requires-in-Below
-angles-requires-in-Below c =
-    let range = c.requires.below c.in-Below.low c.in-Below.high c.in-Below.is in
-    let low : FitsSigned w64 c.in-Below.low = low_fits _ _ range in
-    let high : FitsSigned w64 c.in-Below.high = high_fits _ _ range in
-    simp to_z-of_z range
+pub sum-requires-clause-high_in_range : goal.sum-requires-clause-high_in_range
+sum-requires-clause-high_in_range c =
+    let sine = c.requires.sine.above c.in-Above.low c.in-Above.high c.in-Above.is in
+    (sum_fits c.altitude_sine.result c.args.sine c.altitude_sine.ensures.bound sine.small).high
+
+pub sum-requires-in-Below-clause-low_in_range : goal.sum-requires-in-Below-clause-low_in_range
+sum-requires-in-Below-clause-low_in_range c =
+    let sine = c.requires.sine.below c.in-Below.low c.in-Below.high c.in-Below.is in
+    (sum_fits c.altitude_sine-in-Below.result c.args.sine c.altitude_sine-in-Below.ensures.bound sine.small).low
+
+pub sum-requires-in-Below-clause-high_in_range : goal.sum-requires-in-Below-clause-high_in_range
+sum-requires-in-Below-clause-high_in_range c =
+    let sine = c.requires.sine.below c.in-Below.low c.in-Below.high c.in-Below.is in
+    (sum_fits c.altitude_sine-in-Below.result c.args.sine c.altitude_sine-in-Below.ensures.bound sine.small).high

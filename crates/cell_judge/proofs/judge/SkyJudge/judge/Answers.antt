@@ -8,7 +8,7 @@ use Rattle.cell_judge.proofs.judge.SkyJudge.judge.Goals as goal
 pub returns-in-Some : goal.returns-in-Some
 returns-in-Some c =
     judged grid_sun c.args.self.now.district c.args.self.now.problems c.args.t.problem c.args.t.cell c.in-Some.p
-    c.index-self-t.result _ (omega (arith, length-map c.args.self.now.problems row_of, c.requires.known)) c.in-Some.ensures c.verdict_for.ensures
+    c.index-self-k.result _ (omega (arith, length-map c.args.self.now.problems row_of, c.requires.known)) c.in-Some.ensures c.verdict_for.ensures
 
 pub returns-in-None : goal.returns-in-None
 returns-in-None c = judged_outside grid_sun _ c.args.self.now.district c.args.t.cell c.in-None.ensures
