@@ -12,8 +12,8 @@ use Rattle.region.specs.Rings.{Polygon, polygon_edges, is_within, is_in_district
 use Rattle.region.specs.Named.{edge_point, first_point, corner, named}
 use Rattle.region.specs.Laws.{IsOrdered, misses_latitudes}
 use Rattle.region.specs.Views.{segment_of}
-use Rattle.region.specs.Strips.{BandView, IsBandOf, StripView, IsStripOf, numbered, numbered_edges, reaches, top_of, edges_between, strip_edges, NamesWithoutBeyond, is_in_some}
-use Rattle.region.proofs.Truth.{and_true, and_left, and_right, or_left, or_right, or_cases, is_lt, lt_true, lt_false}
+use Rattle.region.specs.Strips.{StripView, IsStripOf, numbered, numbered_edges, reaches, top_of, strip_edges, NamesWithoutBeyond, is_in_some}
+use Rattle.region.proofs.Truth.{not_true, and_true, and_left, and_right, or_left, or_right, or_cases, is_lt, lt_true, lt_false}
 use Rattle.region.proofs.Odd.{odd_by, xor_assoc, xor_false, is_odd-count_by}
 use Rattle.region.proofs.Wholly.{off_apart, corner_ordered}
 use Rattle.region.proofs.Beyond.{beyond_latitudes, none_apart}
@@ -218,7 +218,7 @@ all_seconds keep n (rings ∷ rest) =
 -- an edge that doesn't reach a strip misses each box within the strip's latitudes
 unreached : (low high : ℤ) (box : Box) (e : Segment) → low ≤ℤ box.y0 → box.y1 ≤ℤ high → reaches low high e ≡ false → misses_latitudes box e ≡ true
 unreached low high box e g h k =
-    elim (or_cases (int_lt e.ya low && int_lt e.yb low) (int_lt high e.ya && int_lt high e.yb) (was_true _ k)) [
+    elim (or_cases (int_lt e.ya low && int_lt e.yb low) (int_lt high e.ya && int_lt high e.yb) (not_true _ k)) [
       | inl a ↦
           let u = is_lt e.ya low (and_left (int_lt e.ya low) (int_lt e.yb low) a) in
           let v = is_lt e.yb low (and_right (int_lt e.ya low) (int_lt e.yb low) a) in
@@ -230,10 +230,6 @@ unreached low high box e g h k =
           or_right (int_lt e.ya box.y0 && int_lt e.yb box.y0) (int_lt box.y1 e.ya && int_lt box.y1 e.yb)
           (and_true (int_lt box.y1 e.ya) (int_lt box.y1 e.yb) (lt_true box.y1 e.ya (omega (arith, ints))) (lt_true box.y1 e.yb (omega (arith, ints))))
     ]
-  where
-    was_true : (a : Bool) → not a ≡ false → a ≡ true
-    was_true true h = refl
-    was_true false h = cc
 
 -- the edges near a box's latitudes name what the district names
 pub band_named : (box : Box) (polygons : List Polygon) (low high : ℤ) → IsOrdered box → low ≤ℤ box.y0 → box.y1 ≤ℤ high

@@ -91,6 +91,10 @@ pub not_false : (a : Bool) → not a ≡ true → a ≡ false
 not_false true h = cc
 not_false false h = refl
 
+pub not_true : (a : Bool) → not a ≡ false → a ≡ true
+not_true true h = refl
+not_true false h = cc
+
 -- a test between two numbers
 pub lt_true : (u v : ℤ) → u <ℤ v → int_lt u v ≡ true
 lt_true u v h = grind (arith, ints)

@@ -112,6 +112,7 @@ fn on_a_side(edge: &Edge, r: &Rect) -> Option<Point>
 }
 
 /// A box's corner in the south-west.
+#[inline(always)]
 pub(crate) fn corner(r: &Rect) -> Point
     ensures { place_of result ≡ corner (box_of r.now) }
 {

@@ -1,5 +1,5 @@
 // Exact arithmetic in 128 bits, an operation a function.
-ghost use Rattle.std.specs.Prelude.{◌≡◌, ◌^◌, pos, ◌≤ℤ◌, ◌+ℤ◌, ◌-ℤ◌, ◌*ℤ◌};
+ghost use Rattle.std.specs.Prelude.{◌≡◌, ◌^◌, pos, ◌≤ℤ◌, ◌+ℤ◌, ◌-ℤ◌, ◌*ℤ◌, ◌&&◌, int_lt};
 ghost use Rattle.region.specs.Magnitude.{IsWithin};
 
 /// A coordinate in parts of `d`.
@@ -60,4 +60,18 @@ pub(crate) fn offset(base: i128, product: i128) -> i128
     ensures { result ≡ base +ℤ product }
 {
     base + product
+}
+
+/// Both ends are less than a number.
+pub(crate) fn are_below(u: i128, v: i128, z: i128) -> bool
+    ensures { result ≡ (int_lt u z && int_lt v z) }
+{
+    u < z && v < z
+}
+
+/// Both ends are greater than a number.
+pub(crate) fn are_above(u: i128, v: i128, z: i128) -> bool
+    ensures { result ≡ (int_lt z u && int_lt z v) }
+{
+    z < u && z < v
 }

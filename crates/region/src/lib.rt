@@ -4,8 +4,6 @@
 
 mod blocks;
 mod bounds;
-#[cfg(test)]
-mod cases;
 mod counts;
 mod crossings;
 mod districts;
@@ -23,8 +21,6 @@ mod rings;
 mod scans;
 mod strips;
 mod surveys;
-#[cfg(test)]
-mod tests;
 mod touches;
 
 pub use bands::Band;

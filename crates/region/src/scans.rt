@@ -27,7 +27,8 @@ fn first_of(edges: &[Edge], r: &Rect) -> Option<Point>
     None
 }
 
-// How the edges stand to a place with whole coordinates.
+// How the edges stand to a place: round a box's corner no denominator is left.
+#[inline(always)]
 fn touch_of(edges: &[Edge], p: &Point) -> Touch
     ensures on { result.on ≡ list_any (is_on (place_of p.now)) (map segment_of edges.now) }
     ensures odd { result.odd ≡ is_odd (count_by (crosses (place_of p.now)) (map segment_of edges.now)) }

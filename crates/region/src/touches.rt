@@ -1,12 +1,12 @@
 // How an edge, and a ring, stand to a place: the place on it, and whether a ray to the east crosses it.
-ghost use Rattle.std.specs.Prelude.{◌≡◌, pos, ◌&&◌, ◌||◌, not, int_lt, if◌then◌else◌};
+ghost use Rattle.std.specs.Prelude.{◌≡◌, pos, ◌*ℤ◌, ◌&&◌, ◌||◌, not, int_lt, if◌then◌else◌};
 ghost use Rattle.std.specs.Ordering.{int_eq};
-ghost use Rattle.region.specs.Plane.{side, is_on, crosses, encloses};
+ghost use Rattle.region.specs.Plane.{side, is_on, is_above, crosses, encloses};
 ghost use Rattle.region.specs.Rings.{xor};
 ghost use Rattle.region.specs.Views.{place_of, segment_of};
 
 use crate::edges::Edge;
-use crate::exact::{area, cross, gap, scaled, span};
+use crate::exact::{are_above, are_below, area, cross, gap, scaled, span};
 use crate::points::Point;
 
 /// The place is on an edge, and a ray from it to the east crosses an odd number of edges.
@@ -45,18 +45,39 @@ fn side(edge: &Edge, p: &Point) -> i128
     cross(rise, run)
 }
 
-// Both ends are less than a number.
-fn are_below(u: i128, v: i128, z: i128) -> bool
-    ensures { result ≡ (int_lt u z && int_lt v z) }
+// The edge's latitudes are beyond the place.
+fn misses_latitude(edge: &Edge, p: &Point) -> bool
+    ensures { result ≡ not (encloses (edge.now.ya *ℤ p.now.d) (edge.now.yb *ℤ p.now.d) p.now.b) }
 {
-    u < z && v < z
+    !encloses(scaled(edge.ya, p.d), scaled(edge.yb, p.d), p.b)
 }
 
-// Both ends are greater than a number.
-fn are_above(u: i128, v: i128, z: i128) -> bool
-    ensures { result ≡ (int_lt z u && int_lt z v) }
+// Both ends of the edge are west of the place.
+fn lies_west(edge: &Edge, p: &Point) -> bool
+    ensures { result ≡ (int_lt (edge.now.xa *ℤ p.now.d) p.now.a && int_lt (edge.now.xb *ℤ p.now.d) p.now.a) }
 {
-    z < u && z < v
+    are_below(scaled(edge.xa, p.d), scaled(edge.xb, p.d), p.a)
+}
+
+// Both ends of the edge are east of the place.
+fn lies_east(edge: &Edge, p: &Point) -> bool
+    ensures { result ≡ (int_lt p.now.a (edge.now.xa *ℤ p.now.d) && int_lt p.now.a (edge.now.xb *ℤ p.now.d)) }
+{
+    are_above(scaled(edge.xa, p.d), scaled(edge.xb, p.d), p.a)
+}
+
+// The edge's start is above the place.
+fn starts_above(edge: &Edge, p: &Point) -> bool
+    ensures { result ≡ is_above (place_of p.now) edge.now.ya }
+{
+    p.b < scaled(edge.ya, p.d)
+}
+
+// The edge's end is above the place.
+fn ends_above(edge: &Edge, p: &Point) -> bool
+    ensures { result ≡ is_above (place_of p.now) edge.now.yb }
+{
+    p.b < scaled(edge.yb, p.d)
 }
 
 fn is_zero(z: i128) -> bool
@@ -79,32 +100,27 @@ fn is_crossed(from_above: bool, to_above: bool, side: i128) -> bool
     }
 }
 
-/// How one edge stands to the place. The edge's own box is tested first. In a loop over edges round a
-/// place with whole coordinates no denominator is left of it.
+/// How one edge stands to the place. The edge's own box is tested first.
 #[inline(always)]
 pub(crate) fn edge_touch(edge: &Edge, p: &Point) -> Touch
     ensures on { result.on ≡ is_on (place_of p.now) (segment_of edge.now) }
     ensures odd { result.odd ≡ crosses (place_of p.now) (segment_of edge.now) }
 {
-    let ya = scaled(edge.ya, p.d);
-    let yb = scaled(edge.yb, p.d);
-    if !encloses(ya, yb, p.b) {
+    if misses_latitude(edge, p) {
         return Touch {
             on: false,
             odd: false,
         };
     }
-    let xa = scaled(edge.xa, p.d);
-    let xb = scaled(edge.xb, p.d);
-    if are_below(xa, xb, p.a) {
+    if lies_west(edge, p) {
         return Touch {
             on: false,
             odd: false,
         };
     }
-    let from_above = p.b < ya;
-    let to_above = p.b < yb;
-    if are_above(xa, xb, p.a) {
+    let from_above = starts_above(edge, p);
+    let to_above = ends_above(edge, p);
+    if lies_east(edge, p) {
         return Touch {
             on: false,
             odd: from_above != to_above,

@@ -1,162 +1,49 @@
-use Rattle.std.proofs.Common.{rules, arith, pos, FitsSigned, refl, sym, ◌∙◌}
+use Rattle.std.proofs.Common.{arith, pos, FitsSigned, rules, true, refl, sym, ◌∙◌}
 use Rattle.std.specs.Prelude.{◌<ℤ◌}
-use Rattle.std.specs.Int.{w64, w128}
+use Rattle.std.specs.Int.{w128}
 use Rattle.std.proofs.lemmas.Int.{ints, to_z-of_z}
 use Rattle.region.specs.Views.{place_of, segment_of}
+use Rattle.region.proofs.Truth.{not_true, not_false}
 use Rattle.region.proofs.Touching.{on_beyond_latitudes, cross_beyond_latitudes, on_beyond_west, cross_beyond_west, on_beyond_east, cross_beyond_east, on_in_box}
 use Rattle.region.proofs.touches.edge_touch.Goals as goal
 
-pub returns-then-not-encloses-clause-on : goal.returns-then-not-encloses-clause-on
-returns-then-not-encloses-clause-on c =
-    let ya : FitsSigned w64 c.args.edge.now.ya = search rules in
-    let yb : FitsSigned w64 c.args.edge.now.yb = search rules in
-    let b : FitsSigned w128 c.args.p.now.b = search rules in
-    let d : FitsSigned w128 c.args.p.now.d = search rules in
-    let f1 : FitsSigned w128 c.scaled-ya.result = search rules in
-    let f2 : FitsSigned w128 c.scaled-yb.result = search rules in
-    let e1 = simp to_z-of_z at c.scaled-ya.ensures.value in
-    let e2 = simp to_z-of_z at c.scaled-yb.ensures.value in
-    let t = rw (e1, e2) at (simp to_z-of_z at c.if-not-encloses.ensures) in
-    sym (on_beyond_latitudes (segment_of c.args.edge.now) (place_of c.args.p.now) (sym t))
+pub returns-then-misses_latitude-clause-on : goal.returns-then-misses_latitude-clause-on
+returns-then-misses_latitude-clause-on c =
+    sym (on_beyond_latitudes (segment_of c.args.edge.now) (place_of c.args.p.now) (not_false _ (sym c.if-misses_latitude.ensures)))
 
-pub returns-then-not-encloses-clause-odd : goal.returns-then-not-encloses-clause-odd
-returns-then-not-encloses-clause-odd c =
-    let ya : FitsSigned w64 c.args.edge.now.ya = search rules in
-    let yb : FitsSigned w64 c.args.edge.now.yb = search rules in
-    let b : FitsSigned w128 c.args.p.now.b = search rules in
-    let d : FitsSigned w128 c.args.p.now.d = search rules in
-    let f1 : FitsSigned w128 c.scaled-ya.result = search rules in
-    let f2 : FitsSigned w128 c.scaled-yb.result = search rules in
-    let e1 = simp to_z-of_z at c.scaled-ya.ensures.value in
-    let e2 = simp to_z-of_z at c.scaled-yb.ensures.value in
-    let t = rw (e1, e2) at (simp to_z-of_z at c.if-not-encloses.ensures) in
-    sym (cross_beyond_latitudes (segment_of c.args.edge.now) (place_of c.args.p.now) (sym t))
+pub returns-then-misses_latitude-clause-odd : goal.returns-then-misses_latitude-clause-odd
+returns-then-misses_latitude-clause-odd c =
+    sym (cross_beyond_latitudes (segment_of c.args.edge.now) (place_of c.args.p.now) (not_false _ (sym c.if-misses_latitude.ensures)))
 
-pub returns-then-are_below-clause-on : goal.returns-then-are_below-clause-on
-returns-then-are_below-clause-on c =
-    let ya : FitsSigned w64 c.args.edge.now.ya = search rules in
-    let yb : FitsSigned w64 c.args.edge.now.yb = search rules in
-    let b : FitsSigned w128 c.args.p.now.b = search rules in
-    let d : FitsSigned w128 c.args.p.now.d = search rules in
-    let f1 : FitsSigned w128 c.scaled-ya.result = search rules in
-    let f2 : FitsSigned w128 c.scaled-yb.result = search rules in
-    let e1 = simp to_z-of_z at c.scaled-ya.ensures.value in
-    let e2 = simp to_z-of_z at c.scaled-yb.ensures.value in
-    let xa : FitsSigned w64 c.args.edge.now.xa = search rules in
-    let xb : FitsSigned w64 c.args.edge.now.xb = search rules in
-    let a : FitsSigned w128 c.args.p.now.a = search rules in
-    let f3 : FitsSigned w128 c.scaled-xa.result = search rules in
-    let f4 : FitsSigned w128 c.scaled-xb.result = search rules in
-    let e3 = simp to_z-of_z at c.scaled-xa.ensures.value in
-    let e4 = simp to_z-of_z at c.scaled-xb.ensures.value in
-    let w = rw (e3, e4) at (simp to_z-of_z at c.if-are_below.ensures) in
-    sym (on_beyond_west (segment_of c.args.edge.now) (place_of c.args.p.now) (sym w))
+pub returns-then-lies_west-clause-on : goal.returns-then-lies_west-clause-on
+returns-then-lies_west-clause-on c =
+    sym (on_beyond_west (segment_of c.args.edge.now) (place_of c.args.p.now) (sym c.if-lies_west.ensures))
 
-pub returns-then-are_below-clause-odd : goal.returns-then-are_below-clause-odd
-returns-then-are_below-clause-odd c =
-    let ya : FitsSigned w64 c.args.edge.now.ya = search rules in
-    let yb : FitsSigned w64 c.args.edge.now.yb = search rules in
-    let b : FitsSigned w128 c.args.p.now.b = search rules in
-    let d : FitsSigned w128 c.args.p.now.d = search rules in
-    let f1 : FitsSigned w128 c.scaled-ya.result = search rules in
-    let f2 : FitsSigned w128 c.scaled-yb.result = search rules in
-    let e1 = simp to_z-of_z at c.scaled-ya.ensures.value in
-    let e2 = simp to_z-of_z at c.scaled-yb.ensures.value in
-    let xa : FitsSigned w64 c.args.edge.now.xa = search rules in
-    let xb : FitsSigned w64 c.args.edge.now.xb = search rules in
-    let a : FitsSigned w128 c.args.p.now.a = search rules in
-    let f3 : FitsSigned w128 c.scaled-xa.result = search rules in
-    let f4 : FitsSigned w128 c.scaled-xb.result = search rules in
-    let e3 = simp to_z-of_z at c.scaled-xa.ensures.value in
-    let e4 = simp to_z-of_z at c.scaled-xb.ensures.value in
-    let w = rw (e3, e4) at (simp to_z-of_z at c.if-are_below.ensures) in
+pub returns-then-lies_west-clause-odd : goal.returns-then-lies_west-clause-odd
+returns-then-lies_west-clause-odd c =
     let positive : pos 0 <ℤ c.args.p.now.d = omega (arith, ints, c.args.p.now.positive) in
-    sym (cross_beyond_west (segment_of c.args.edge.now) (place_of c.args.p.now) positive (sym w))
+    sym (cross_beyond_west (segment_of c.args.edge.now) (place_of c.args.p.now) positive (sym c.if-lies_west.ensures))
 
-pub returns-then-are_above-clause-on : goal.returns-then-are_above-clause-on
-returns-then-are_above-clause-on c =
-    let ya : FitsSigned w64 c.args.edge.now.ya = search rules in
-    let yb : FitsSigned w64 c.args.edge.now.yb = search rules in
-    let b : FitsSigned w128 c.args.p.now.b = search rules in
-    let d : FitsSigned w128 c.args.p.now.d = search rules in
-    let f1 : FitsSigned w128 c.scaled-ya.result = search rules in
-    let f2 : FitsSigned w128 c.scaled-yb.result = search rules in
-    let e1 = simp to_z-of_z at c.scaled-ya.ensures.value in
-    let e2 = simp to_z-of_z at c.scaled-yb.ensures.value in
-    let xa : FitsSigned w64 c.args.edge.now.xa = search rules in
-    let xb : FitsSigned w64 c.args.edge.now.xb = search rules in
-    let a : FitsSigned w128 c.args.p.now.a = search rules in
-    let f3 : FitsSigned w128 c.scaled-xa.result = search rules in
-    let f4 : FitsSigned w128 c.scaled-xb.result = search rules in
-    let e3 = simp to_z-of_z at c.scaled-xa.ensures.value in
-    let e4 = simp to_z-of_z at c.scaled-xb.ensures.value in
-    let x = rw (e3, e4) at (simp to_z-of_z at c.if-are_above.ensures) in
-    sym (on_beyond_east (segment_of c.args.edge.now) (place_of c.args.p.now) (sym x))
+pub returns-then-lies_east-clause-on : goal.returns-then-lies_east-clause-on
+returns-then-lies_east-clause-on c =
+    sym (on_beyond_east (segment_of c.args.edge.now) (place_of c.args.p.now) (sym c.if-lies_east.ensures))
 
-pub returns-then-are_above-clause-odd : goal.returns-then-are_above-clause-odd
-returns-then-are_above-clause-odd c =
-    let ya : FitsSigned w64 c.args.edge.now.ya = search rules in
-    let yb : FitsSigned w64 c.args.edge.now.yb = search rules in
-    let b : FitsSigned w128 c.args.p.now.b = search rules in
-    let d : FitsSigned w128 c.args.p.now.d = search rules in
-    let f1 : FitsSigned w128 c.scaled-ya.result = search rules in
-    let f2 : FitsSigned w128 c.scaled-yb.result = search rules in
-    let e1 = simp to_z-of_z at c.scaled-ya.ensures.value in
-    let e2 = simp to_z-of_z at c.scaled-yb.ensures.value in
-    let xa : FitsSigned w64 c.args.edge.now.xa = search rules in
-    let xb : FitsSigned w64 c.args.edge.now.xb = search rules in
-    let a : FitsSigned w128 c.args.p.now.a = search rules in
-    let f3 : FitsSigned w128 c.scaled-xa.result = search rules in
-    let f4 : FitsSigned w128 c.scaled-xb.result = search rules in
-    let e3 = simp to_z-of_z at c.scaled-xa.ensures.value in
-    let e4 = simp to_z-of_z at c.scaled-xb.ensures.value in
-    let x = rw (e3, e4) at (simp to_z-of_z at c.if-are_above.ensures) in
+pub returns-then-lies_east-clause-odd : goal.returns-then-lies_east-clause-odd
+returns-then-lies_east-clause-odd c =
     let positive : pos 0 <ℤ c.args.p.now.d = omega (arith, ints, c.args.p.now.positive) in
-    simp to_z-of_z (rw (e1, e2) (sym (cross_beyond_east (segment_of c.args.edge.now) (place_of c.args.p.now) positive (sym x))))
+    rw (c.starts_above-from_above.ensures, c.ends_above-to_above.ensures)
+    (sym (cross_beyond_east (segment_of c.args.edge.now) (place_of c.args.p.now) positive (sym c.if-lies_east.ensures)))
 
 pub returns-clause-on : goal.returns-clause-on
 returns-clause-on c =
-    let ya : FitsSigned w64 c.args.edge.now.ya = search rules in
-    let yb : FitsSigned w64 c.args.edge.now.yb = search rules in
-    let b : FitsSigned w128 c.args.p.now.b = search rules in
-    let d : FitsSigned w128 c.args.p.now.d = search rules in
-    let f1 : FitsSigned w128 c.scaled-ya.result = search rules in
-    let f2 : FitsSigned w128 c.scaled-yb.result = search rules in
-    let e1 = simp to_z-of_z at c.scaled-ya.ensures.value in
-    let e2 = simp to_z-of_z at c.scaled-yb.ensures.value in
-    let xa : FitsSigned w64 c.args.edge.now.xa = search rules in
-    let xb : FitsSigned w64 c.args.edge.now.xb = search rules in
-    let a : FitsSigned w128 c.args.p.now.a = search rules in
-    let f3 : FitsSigned w128 c.scaled-xa.result = search rules in
-    let f4 : FitsSigned w128 c.scaled-xb.result = search rules in
-    let e3 = simp to_z-of_z at c.scaled-xa.ensures.value in
-    let e4 = simp to_z-of_z at c.scaled-xb.ensures.value in
-    let t = rw (e1, e2) at (simp to_z-of_z at c.if-not-encloses.ensures) in
-    let w = rw (e3, e4) at (simp to_z-of_z at c.if-are_below.ensures) in
-    let x = rw (e3, e4) at (simp to_z-of_z at c.if-are_above.ensures) in
-    let f5 : FitsSigned w128 c.side-side.result = search rules in
-    let e5 = c.side-side.ensures in
-    let z = simp to_z-of_z at c.is_zero.ensures in
-    z ∙ rw e5 (sym (on_in_box (segment_of c.args.edge.now) (place_of c.args.p.now) (sym t) (sym w) (sym x)))
+    let f : FitsSigned w128 c.side-side.result = search rules in
+    let side = c.side-side.ensures in
+    let here = simp to_z-of_z at c.is_zero.ensures in
+    here ∙ rw side (sym (on_in_box (segment_of c.args.edge.now) (place_of c.args.p.now)
+    (not_true _ (sym c.if-misses_latitude.ensures)) (sym c.if-lies_west.ensures) (sym c.if-lies_east.ensures)))
 
 pub returns-clause-odd : goal.returns-clause-odd
 returns-clause-odd c =
-    let ya : FitsSigned w64 c.args.edge.now.ya = search rules in
-    let yb : FitsSigned w64 c.args.edge.now.yb = search rules in
-    let b : FitsSigned w128 c.args.p.now.b = search rules in
-    let d : FitsSigned w128 c.args.p.now.d = search rules in
-    let f1 : FitsSigned w128 c.scaled-ya.result = search rules in
-    let f2 : FitsSigned w128 c.scaled-yb.result = search rules in
-    let e1 = simp to_z-of_z at c.scaled-ya.ensures.value in
-    let e2 = simp to_z-of_z at c.scaled-yb.ensures.value in
-    let xa : FitsSigned w64 c.args.edge.now.xa = search rules in
-    let xb : FitsSigned w64 c.args.edge.now.xb = search rules in
-    let a : FitsSigned w128 c.args.p.now.a = search rules in
-    let f3 : FitsSigned w128 c.scaled-xa.result = search rules in
-    let f4 : FitsSigned w128 c.scaled-xb.result = search rules in
-    let e3 = simp to_z-of_z at c.scaled-xa.ensures.value in
-    let e4 = simp to_z-of_z at c.scaled-xb.ensures.value in
-    let f5 : FitsSigned w128 c.side-side.result = search rules in
-    let e5 = c.side-side.ensures in
-    let z = simp to_z-of_z at c.is_crossed.ensures in
-    z ∙ rw (e1, e2, e5) refl
+    let f : FitsSigned w128 c.side-side.result = search rules in
+    let here = simp to_z-of_z at c.is_crossed.ensures in
+    here ∙ rw (c.starts_above-from_above.ensures, c.ends_above-to_above.ensures, c.side-side.ensures) refl

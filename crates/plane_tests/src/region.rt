@@ -1,6 +1,8 @@
 // Worked rows, and what a slow reference answers about the same districts.
-use super::*;
-use crate::cases::{BOXES, DISTRICTS, PLACES};
+mod cases;
+
+use cases::{BOXES, DISTRICTS, PLACES};
+use region::{District, Point, Rect, RegionFault};
 use std::alloc::Global;
 use std::process::Abort;
 use std::test::Fail;
