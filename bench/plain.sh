@@ -1,18 +1,18 @@
 #!/usr/bin/env bash
-# Times `plain` over 30 days for two borders round Riyadh: 300 positions, 40 kilometres across, and 4,096 positions, 350
-# kilometres across: plain.sh [PROGRAM]
-# The program is the proved one, or the one given. Each order runs three times, and the least processor time counts.
-# The cells that its searches judge are counted by `kernel_bench`, which makes the same ones.
-# Where valgrind is there, the instructions of one more run are counted, which takes some fifty times as long. It is given
-# a copy without names, since it doesn't read every compiler's.
+# What `plain` takes on the standard orders: plain.sh [PROGRAM [NAME]..]
+# The program is the proved one where none or `-` is given; with no names, all orders of standard_orders.py.
+# Each order runs three times, and the least processor time counts. The cells that its searches judge are counted by
+# `kernel_bench`, which makes the same ones. Where valgrind is there, the instructions of one more run are counted,
+# the reading of the order and the writing of the table included, which takes some fifty times as long. It is given a
+# copy without names, since it doesn't read every compiler's.
 set -euo pipefail
 top=$(cd "$(dirname "$0")/.." && pwd)
 work=$(mktemp -d)
 trap 'rm -rf "$work"' EXIT
 
-if [ $# -gt 0 ]; then
-    program=$1
-else
+program=${1:--}
+shift || true
+if [ "$program" = - ]; then
     "$top/timetable" sun 0 0 0 0 >/dev/null
     program=$top/crates/timetable_cli/out/timetable_cli
 fi
@@ -30,19 +30,21 @@ least_time() {
 instructions() {
     strip -o "$work/stripped" "$program"
     valgrind --tool=callgrind --callgrind-out-file=/dev/null "$work/stripped" plain <"$1" 2>&1 >/dev/null |
-        awk -v cells="$2" '/Collected/ { printf ", %.2f billion instructions, %.0f a cell", $NF / 1e9, $NF / cells }'
+        awk -v cells="$2" '/Collected/ { printf ", %.1f million instructions, %.0f a cell", $NF / 1e6, $NF / cells }'
 }
 
 measure() {
-    python3 "$top/bench/border.py" "$1" "$2" >"$work/order.json"
-    seconds=$(least_time "$work/order.json")
-    cells=$("$kernels" cells <"$work/order.json")
-    counted=
+    local order=$work/$1.json
+    python3 "$top/bench/standard_orders.py" "$1" >"$order"
+    local seconds cells counted=
+    seconds=$(least_time "$order")
+    cells=$("$kernels" cells <"$order")
     if command -v valgrind >/dev/null; then
-        counted=$(instructions "$work/order.json" "$cells")
+        counted=$(instructions "$order" "$cells")
     fi
-    echo "$1 positions, $2 kilometres across, 30 days: $seconds s, $cells cells judged$counted; $(tail -n 1 "$work/table")"
+    echo "$1: $seconds s, $cells cells judged$counted; $(tail -n 1 "$work/table")"
 }
 
-measure 300 40
-measure 4096 350
+for name in ${@:-$(python3 "$top/bench/standard_orders.py")}; do
+    measure "$name"
+done

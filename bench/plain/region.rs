@@ -157,10 +157,7 @@ impl District {
 
     fn meets(&self, r: &Rect) -> Option<Point> {
         let met = self.polygons.iter().flatten().find_map(|ring| point_along(ring, r));
-        met.or_else(|| {
-            let corner = Point { a: i128::from(r.x0), b: i128::from(r.y0), d: 1 };
-            self.contains(&corner).then_some(corner)
-        })
+        met.or_else(|| self.contains(&corner(r)).then_some(corner(r)))
     }
 
     fn strips(&self, south: i64) -> Vec<Strip> {
@@ -177,38 +174,104 @@ impl District {
                 }
             }
         }
-        Strip { edges }
+        let blocks = blocks_of(&edges);
+        Strip { edges, blocks }
     }
+}
+
+/// So many edges of one polygon that follow each other, and a box round them.
+struct Block {
+    x: (i64, i64),
+    y: (i64, i64),
+    polygon: u32,
+    count: usize,
+}
+
+impl Block {
+    fn of_first(edges: &[Edge]) -> Block {
+        let polygon = edges[0].polygon;
+        let own = || edges.iter().take(16).take_while(|edge| edge.polygon == polygon);
+        let x = || own().flat_map(|edge| [edge.xa, edge.xb]);
+        let y = || own().flat_map(|edge| [edge.ya, edge.yb]);
+        Block {
+            x: (x().min().unwrap(), x().max().unwrap()),
+            y: (y().min().unwrap(), y().max().unwrap()),
+            polygon,
+            count: own().count(),
+        }
+    }
+
+    fn misses_latitudes(&self, r: &Rect) -> bool {
+        self.y.1 < r.y0 || r.y1 < self.y.0
+    }
+
+    fn misses_longitudes(&self, r: &Rect) -> bool {
+        self.x.1 < r.x0 || r.x1 < self.x.0
+    }
+}
+
+fn blocks_of(edges: &[Edge]) -> Vec<Block> {
+    let mut blocks = Vec::new();
+    let mut left = edges;
+    while !left.is_empty() {
+        let block = Block::of_first(left);
+        left = &left[block.count..];
+        blocks.push(block);
+    }
+    blocks
 }
 
 struct Strip {
     edges: Vec<Edge>,
+    blocks: Vec<Block>,
 }
 
 impl Strip {
-    fn contains(&self, p: &Point) -> bool {
+    /// The blocks, each with its edges.
+    fn blocks(&self) -> impl Iterator<Item = (&Block, &[Edge])> {
+        let mut left = self.edges.as_slice();
+        self.blocks.iter().map(move |block| {
+            let (own, rest) = left.split_at(block.count);
+            left = rest;
+            (block, own)
+        })
+    }
+
+    fn any_around(&self, r: &Rect) -> bool {
+        let corner = corner(r);
         let (mut polygon, mut odd) = (0, false);
-        for edge in &self.edges {
-            let same = edge.polygon == polygon;
+        for (block, own) in self.blocks() {
+            let same = block.polygon == polygon;
             if !same && odd {
                 return true;
             }
-            let touch = edge.touch(p);
+            let touch = if block.misses_latitudes(r) {
+                APART
+            } else {
+                own.iter().fold(APART, |seen, edge| {
+                    let touch = edge.touch(&corner);
+                    Touch { on: seen.on || touch.on, odd: seen.odd != touch.odd }
+                })
+            };
             if touch.on {
                 return true;
             }
             odd = if same { odd != touch.odd } else { touch.odd };
-            polygon = edge.polygon;
+            polygon = block.polygon;
         }
         odd
     }
 
     fn meets(&self, r: &Rect) -> Option<Point> {
-        self.edges.iter().find_map(|edge| edge.point_in(r)).or_else(|| {
-            let corner = Point { a: i128::from(r.x0), b: i128::from(r.y0), d: 1 };
-            self.contains(&corner).then_some(corner)
-        })
+        self.blocks()
+            .filter(|(block, _)| !block.misses_latitudes(r) && !block.misses_longitudes(r))
+            .find_map(|(_, own)| own.iter().find_map(|edge| edge.point_in(r)))
+            .or_else(|| self.any_around(r).then_some(corner(r)))
     }
+}
+
+fn corner(r: &Rect) -> Point {
+    Point { a: i128::from(r.x0), b: i128::from(r.y0), d: 1 }
 }
 
 const MIDDLE: (i64, i64) = (39_800_000, 21_400_000);
