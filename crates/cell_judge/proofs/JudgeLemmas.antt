@@ -34,17 +34,13 @@ pub judged_outside : (grid : Range → SunTerms) (row : Row) (polygons : List Po
 unfolding verdict_on
 judged_outside grid row polygons cell none = ap (verdict_by grid row cell) none
 
--- the row of the problem that is read
-read_row : (problems : List Problem) (k : ℕ) (d : Problem) → k < length problems → row_of (get_or problems k d) ≡ row_at (map row_of problems) k
-read_row problems k d inside = sym (get_or-map row_of problems k d _ inside)
-
 -- the verdict with the place that is named
-pub judged : (grid : Range → SunTerms) (polygons : List Polygon) (problems : List Problem) (k : ℕ) (cell : Cell) (p : Point) (d : Problem) (v : Verdict)
-    → k < length problems → Some (place_of p) ≡ named (box_of cell) polygons → v ≡ verdict_with grid (row_of (get_or problems k d)) cell p
-    → v ≡ verdict_on grid (row_at (map row_of problems) k) polygons cell
+pub judged : (grid : Range → SunTerms) (row : Row) (polygons : List Polygon) (cell : Cell) (p : Point) (v : Verdict)
+    → Some (place_of p) ≡ named (box_of cell) polygons → v ≡ verdict_with grid row cell p → v ≡ verdict_on grid row polygons cell
 unfolding verdict_on
-judged grid polygons problems k cell p d v inside is made =
-    made
-    ∙ ap (λ (x : Row). verdict_with grid x cell p) (read_row problems k d inside)
-    ∙ ap (verdict_with grid (row_at (map row_of problems) k) cell) (point_of_place p)
-    ∙ ap (verdict_by grid (row_at (map row_of problems) k) cell) is
+judged grid row polygons cell p v is made =
+    made ∙ ap (verdict_with grid row cell) (point_of_place p) ∙ ap (verdict_by grid row cell) is
+
+-- the row of the problem that is read
+pub read_row : (problems : List Problem) (k : ℕ) (d : Problem) → k < length problems → row_of (get_or problems k d) ≡ row_at (map row_of problems) k
+read_row problems k d inside = sym (get_or-map row_of problems k d _ inside)

@@ -2,6 +2,7 @@
 // Contract: a verdict is that of the district's named point and the enclosure of the condition's value on the grid.
 #![tactic(auto)]
 
+mod any_problem;
 mod judge;
 pub mod laws;
 mod named;
