@@ -1,5 +1,5 @@
 -- A judge that answers as another one does has its tree.
-use Rattle.std.proofs.Common.{◌≡◌, ℕ, zero, suc, ◌≤◌, ◌<◌, max, Bool, true, false, ◌&&◌, cond, List, [], ◌∷◌, ◌++◌, map, Option, None, Some, refl, sym, ap, ◌∙◌, subst, arith}
+use Rattle.std.proofs.Common.{◌≡◌, ℕ, zero, suc, ◌≤◌, max, Bool, true, false, ◌&&◌, cond, List, [], ◌∷◌, ◌++◌, map, Option, None, Some, refl, sym, ap, ◌∙◌, subst, arith}
 use Rattle.std.specs.Prelude.{◌==◌, flat_map}
 use Rattle.std.specs.Option.{option_map}
 use Rattle.cell_split.specs.declared.cell.Cell.{Cell}
@@ -9,7 +9,7 @@ use Rattle.cell_split.specs.Cells.{IsCellOf}
 use Rattle.cell_split.specs.Entries.{entry_by, entry_of, first_open, greatest_word, is_open_above, last_word, open_word, refuted_word}
 use Rattle.cell_split.specs.Judges.{Content}
 use Rattle.cell_split.specs.Laws.{IsChildOf}
-use Rattle.cell_split.specs.Renumbered.{AnswersAs, AnswersLawfully, HasTreeOf, JudgesOfLawfulOnesAreLawful, RenumberedTreesAreTheSame, renumbered}
+use Rattle.cell_split.specs.Renumbered.{AnswersAs, JudgesOfLawfulOnesAreLawful, RenumberedTreesAreTheSame, renumbered}
 use Rattle.cell_split.specs.Split.{children_of}
 use Rattle.cell_split.specs.Tree.{child_tasks, leaf_of, leaves, levels, root_task, task_of}
 use Rattle.cell_split.specs.Verdicts.{is_open, is_refuted, is_split}
@@ -35,12 +35,12 @@ leaves_below c other j k answers zero cell small is = absurd (omega arith)
 leaves_below c other j k answers (suc n) cell small is =
     let same = answers.same_verdicts cell is in
     let below : flat_map (leaves c) (child_tasks (task_of j cell)) ≡ map (renumbered j) (flat_map (leaves other) (child_tasks (task_of k cell))) =
-        flat_map-map (leaves c) (task_of j) (children_of cell)
-        ∙ (flat_map_same (λ d. leaves c (task_of j d)) (λ d. map (renumbered j) (leaves other (task_of k d))) (children_of cell)
-            (Every-weaker (IsChildOf other.root cell) (λ d. leaves c (task_of j d) ≡ map (renumbered j) (leaves other (task_of k d))) (children_of cell)
-            (λ d h. leaves_below c other j k answers n d (omega (arith, h.falls)) h.is_cell) (children_are other.root cell is))
-        ∙ (sym (map-flat_map (renumbered j) (λ d. leaves other (task_of k d)) (children_of cell))
-        ∙ ap (map (renumbered j)) (sym (flat_map-map (leaves other) (task_of k) (children_of cell))))) in
+    flat_map-map (leaves c) (task_of j) (children_of cell)
+    ∙ (flat_map_same (λ d. leaves c (task_of j d)) (λ d. map (renumbered j) (leaves other (task_of k d))) (children_of cell)
+    (Every-weaker (IsChildOf other.root cell) (λ d. leaves c (task_of j d) ≡ map (renumbered j) (leaves other (task_of k d))) (children_of cell)
+    (λ d h. leaves_below c other j k answers n d (omega (arith, h.falls)) h.is_cell) (children_are other.root cell is))
+    ∙ (sym (map-flat_map (renumbered j) (λ d. leaves other (task_of k d)) (children_of cell))
+    ∙ ap (map (renumbered j)) (sym (flat_map-map (leaves other) (task_of k) (children_of cell))))) in
     let own : List Leaf = leaf_of other (task_of k cell) ∷ [] in
     leaves-step c (task_of j cell)
     ∙ (ap (λ (v : Verdict). cond (is_split v) (flat_map (leaves c) (child_tasks (task_of j cell))) (record { task = task_of j cell; verdict = v } ∷ [])) same
@@ -85,8 +85,8 @@ pub renumbered_trees : RenumberedTreesAreTheSame
 renumbered_trees c other law j k answers =
     let is : IsCellOf other.root other.root = root_in_itself other law in
     let same : leaves c (root_task c j) ≡ map (renumbered j) (leaves other (root_task other k)) =
-        ap (λ (root : Cell). leaves c (task_of j root)) answers.same_root
-        ∙ leaves_below c other j k answers (levels other.root) other.root (omega arith) is in
+    ap (λ (root : Cell). leaves c (task_of j root)) answers.same_root
+    ∙ leaves_below c other j k answers (levels other.root) other.root (omega arith) is in
     record {
       same_leaves = same;
       same_refuted = ap refuted_word same ∙ refuted_same j (leaves other (root_task other k));

@@ -1,5 +1,5 @@
 -- Judges made of judges: one that answers for a problem as another one does for a problem of its own has that one's tree.
-use Rattle.std.specs.Prelude.{◌≡◌, ℕ, ◌<◌, List, map}
+use Rattle.std.specs.Prelude.{◌≡◌, ℕ, ◌<◌, map}
 use Rattle.cell_split.specs.declared.cell.Cell.{Cell}
 use Rattle.cell_split.specs.declared.verdict.Leaf.{Leaf}
 use Rattle.cell_split.specs.Cells.{IsCellOf, IsRoot}

@@ -5,6 +5,8 @@
 #[cfg(test)]
 mod bound_word;
 #[cfg(test)]
+mod days_sky;
+#[cfg(test)]
 mod judges;
 #[cfg(test)]
 mod steal_pool;
