@@ -10,7 +10,7 @@ use region::Point;
 use std::process::Abort;
 use std::sync::atomic::{AtomicU64, Ordering};
 use std::test::Fail;
-use steal_pool::{Gate, Harvest, OpenGate, search, search_plain};
+use steal_pool::{Gate, Harvest, OpenGate, TopRanks, search, search_plain, top_ranks};
 
 /// Counts the tasks, and has a bit for each worker that began one.
 #[derive(Drop)]
@@ -143,4 +143,23 @@ fn a_refuted_leaf_raises_the_rank_and_what_it_covers_is_left_out(
     assert_eq!(rt; harvest.refuted_rank(0), Some(720));
     assert_eq!(rt; gate.tasks.load(Ordering::SeqCst), 2);
     Ok(())
+}
+
+#[test]
+fn the_ranks_alone_tell_what_is_refuted_and_what_is_left_open(rt: HostRuntime) {
+    let (root, point) = (root_at(100_000, 0), corner());
+    let open = TopRanks {
+        refuted: Some(99),
+        left_open: Some(100),
+    };
+    assert_eq!(rt; top_ranks(&Threshold { root, point }, 0), open);
+    let never = TopRanks {
+        refuted: Some(720),
+        left_open: None,
+    };
+    assert_eq!(rt; top_ranks(&Late { root, point }, 0), never);
+    let judge = Steps { root, point };
+    for k in 1..7u32 {
+        assert_eq!(rt; top_ranks(&judge, k).refuted, Some(100 * k - 1));
+    }
 }

@@ -23,7 +23,7 @@ refuted_word-append [] ys = omega arith
 refuted_word-append (x ∷ xs) ys = let h = refuted_word-append xs ys in omega arith
 
 -- the leaves below a task have no greater rank than its cell
-refuted_word-below : (t : Task) (xs : List Leaf) → Every (IsUnder t) xs → refuted_word xs ≤ t.cell.last + 1
+pub refuted_word-below : (t : Task) (xs : List Leaf) → Every (IsUnder t) xs → refuted_word xs ≤ t.cell.last + 1
 refuted_word-below t [] below = omega arith
 refuted_word-below t (x ∷ xs) below =
     let h = refuted_word-below t xs below.1 in
@@ -94,7 +94,7 @@ collects-split c t cells i u w f g split same end all =
     subst P (sym (leaves_of_split c t split)) (subst P (ap (λ (l : List Cell). flat_map (leaves c) (map (task_of t.problem) l)) e) all)
 
 -- the leaves of one child more
-leaves_more : (c : Content) (k : ℕ) (cells : List Cell) (cell : Cell)
+pub leaves_more : (c : Content) (k : ℕ) (cells : List Cell) (cell : Cell)
     → flat_map (leaves c) (map (task_of k) (cells ++ cell ∷ [])) ≡ flat_map (leaves c) (map (task_of k) cells) ++ leaves c (task_of k cell)
 leaves_more c k [] cell = append-nil (leaves c (task_of k cell))
 leaves_more c k (d ∷ cells) cell =

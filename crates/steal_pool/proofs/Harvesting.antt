@@ -1,5 +1,5 @@
 -- Searches of one problem after another make a harvest.
-use Rattle.std.proofs.Common.{◌≡◌, ℕ, suc, ◌+◌, ◌<◌, ◌≤◌, List, [], ◌∷◌, ◌++◌, length, filter, All, Contains, Option, None, sum_by, sym, refl, ap, ◌∙◌, append_assoc, subst, arith, add-one, length-append}
+use Rattle.std.proofs.Common.{◌≡◌, ℕ, suc, ◌+◌, ◌<◌, List, [], ◌∷◌, ◌++◌, filter, Contains, Option, None, sum_by, sym, refl, ap, ◌∙◌, append_assoc, subst, arith, add-one, length-append}
 use Rattle.std.proofs.lemmas.List.{append-nil, get_or_push, get_or_append_left}
 use Rattle.std.proofs.lemmas.List.Elements.{All-nil, All-append, All-weaker, Contains-append_left, Contains-append_right, filter-append}
 use mathlib.Core.Logic.{dite}

@@ -2,3 +2,4 @@ pub mod Harvests
 pub mod Collected
 pub mod Samples
 pub mod SampleLaws
+pub mod TopRanks

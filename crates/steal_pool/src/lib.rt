@@ -6,8 +6,10 @@ mod gate;
 mod harvest;
 mod parts;
 mod plain;
+mod ranks_alone;
 
 pub use gate::{Gate, OpenGate};
 pub use harvest::{Harvest, Leaves, Ranks};
 pub use parts::search;
 pub use plain::search_plain;
+pub use ranks_alone::{TopRanks, top_ranks};

@@ -92,8 +92,8 @@ fn visit_children<J: Judge>(
     Ok(())
 }
 
-// Whether no leaf of the cell can be above the refuted rank.
-fn is_spared(refuted: Option<u32>, cell: &Cell) -> bool
+/// Whether no leaf of the cell can be above the refuted rank.
+pub(crate) fn is_spared(refuted: Option<u32>, cell: &Cell) -> bool
     ensures { IsTrue result ↔ (cell.now.last < word_of refuted) }
 {
     match refuted {

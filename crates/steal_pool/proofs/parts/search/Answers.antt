@@ -1,7 +1,6 @@
-use Rattle.std.proofs.Common.{◌≡◌, ◌+◌, ◌<◌, ◌∷◌, [], ◌++◌, List, append_assoc, append-nil, length, length-append, ℕ, ap, refl, sym, ◌∙◌, subst, arith, rules}
+use Rattle.std.proofs.Common.{◌≡◌, ◌<◌, ◌∷◌, [], ◌++◌, append_assoc, length, length-append, ap, refl, ◌∙◌, arith, rules}
 use Rattle.std.specs.Vec.Iter.{into_iter_items}
 use Rattle.std.proofs.Math.Seq.{get_or-append_seam}
-use Rattle.steal_pool.specs.Collected.{Searched, part_start}
 use Rattle.steal_pool.proofs.Harvesting.{harvested, searched-none}
 use Rattle.steal_pool.proofs.PartStarts.{first_part, last_part}
 use Rattle.steal_pool.proofs.parts.search.Goals as goal

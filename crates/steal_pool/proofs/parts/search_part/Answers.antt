@@ -1,4 +1,4 @@
-use Rattle.std.proofs.Common.{◌+◌, ◌≤◌, arith}
+use Rattle.std.proofs.Common.{◌+◌, arith}
 use Rattle.steal_pool.proofs.PartStarts.{parts_within}
 use Rattle.steal_pool.proofs.parts.search_part.Goals as goal
 

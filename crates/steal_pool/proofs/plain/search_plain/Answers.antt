@@ -1,4 +1,3 @@
-use Rattle.std.proofs.Common.{ℕ}
 use Rattle.std.proofs.lemmas.Result.{IfOk-weaker}
 use Rattle.steal_pool.specs.Collected.{Continues}
 use Rattle.steal_pool.specs.Harvests.{IsHarvest}

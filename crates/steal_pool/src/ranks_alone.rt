@@ -1,0 +1,101 @@
+// The search that keeps no leaf: for an entry the ranks are enough.
+ghost use Rattle.std.specs.Prelude.{◌≡◌, ◌<◌, true, max, if◌then◌else◌};
+ghost use Rattle.cell_split.specs.Entries.{last_word};
+ghost use Rattle.cell_split.specs.Judges.{IsTask};
+ghost use Rattle.cell_split.specs.Tree.{leaves, root_task};
+ghost use Rattle.cell_split.specs.Verdicts.{is_open, is_refuted, is_split};
+ghost use Rattle.steal_pool.specs.Harvests.{word_of};
+ghost use Rattle.steal_pool.specs.TopRanks.{AreTopWords, Rises, above};
+
+use crate::plain::is_spared;
+use cell_split::{Judge, Leaf, Task, Verdict, children};
+
+/// What decides the entry of a problem.
+#[derive(Clone, Copy, Debug, PartialEq, Eq)]
+pub struct TopRanks {
+    /// The greatest refuted rank, None where no rank is refuted.
+    pub refuted: Option<u32>,
+    /// The greatest open rank above it, None where none is open there.
+    pub left_open: Option<u32>,
+}
+
+/// Searches the tree of problem `k` on this thread for its refuted rank and its greatest open rank
+/// above it. It leaves out the cells whose last rank is at most the refuted rank that it knows, and
+/// takes no memory.
+pub fn top_ranks<J: Judge>(judge: &J, k: u32) -> TopRanks
+    requires { k < (J.content judge.now).problems }
+    ensures { AreTopWords (leaves (J.content judge.now) (root_task (J.content judge.now) k)) (word_of result.refuted) (word_of result.left_open) }
+{
+    let root = Task {
+        problem: k,
+        cell: judge.root(),
+    };
+    let mut found = TopRanks {
+        refuted: None,
+        left_open: None,
+    };
+    rise(judge, root, &mut found);
+    TopRanks {
+        refuted: found.refuted,
+        left_open: open_above(&found),
+    }
+}
+
+// The open rank, if it is above the refuted one.
+fn open_above(found: &TopRanks) -> Option<u32>
+    ensures { word_of result ≡ above (word_of found.now.refuted) (word_of found.now.left_open) }
+{
+    match (found.left_open, found.refuted) {
+        (Some(rank), Some(refuted)) if rank <= refuted => None,
+        _ => found.left_open,
+    }
+}
+
+// Takes in the tree below a task.
+#[cycle(rises)]
+fn rise<J: Judge>(judge: &J, task: Task, found: &mut TopRanks)
+    requires { IsTask (J.content judge.now) task }
+    ensures { Rises (leaves (J.content judge.now) task)
+        (word_of found.old.refuted) (word_of found.old.left_open) (word_of found.new.refuted) (word_of found.new.left_open) }
+{
+    if is_spared(found.refuted, &task.cell) {
+        return;
+    }
+    let verdict = judge.judge(task);
+    if verdict.splits() {
+        rise_children(judge, task, found);
+    } else {
+        take_in(Leaf { task, verdict }, found);
+    }
+}
+
+// Takes in the trees below the children of a task, the first child first.
+#[cycle(rises)]
+fn rise_children<J: Judge>(judge: &J, task: Task, found: &mut TopRanks)
+    requires task { IsTask (J.content judge.now) task }
+    requires split { is_split ((J.content judge.now).verdict task) ≡ true }
+    ensures { Rises (leaves (J.content judge.now) task)
+        (word_of found.old.refuted) (word_of found.old.left_open) (word_of found.new.refuted) (word_of found.new.left_open) }
+{
+    let below = children(&task.cell);
+    for cell in &below.cells[..below.count as usize] {
+        let child = Task {
+            problem: task.problem,
+            cell: *cell,
+        };
+        rise(judge, child, found);
+    }
+}
+
+// Takes in a leaf that is above the refuted rank.
+fn take_in(leaf: Leaf, found: &mut TopRanks)
+    ensures refuted { word_of found.new.refuted ≡ (if is_refuted leaf.verdict then last_word leaf else word_of found.old.refuted) }
+    ensures opened { word_of found.new.left_open ≡ (if is_open leaf.verdict then max (word_of found.old.left_open) (last_word leaf) else word_of found.old.left_open) }
+{
+    let last = leaf.task.cell.last;
+    match leaf.verdict {
+        Verdict::Refuted(_) => found.refuted = Some(last),
+        Verdict::Open(_) => found.left_open = Some(found.left_open.unwrap_or(0).max(last)),
+        _ => {}
+    }
+}
