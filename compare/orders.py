@@ -1,10 +1,10 @@
 """Compares what a program answers to random orders with what a reference answers, byte for byte.
 
-    python3 compare/orders.py COUNT PROGRAM REFERENCE [SEED]
+    python3 bench/orders.py COUNT [PROGRAM [REFERENCE [SEED]]]
 
-PROGRAM and REFERENCE are commands, each one argument, as './timetable' or 'python3 reference.py'. They are run with the
-word `order` on COUNT orders, of which about half are wrong somewhere, and with the word `plain` on a fifth as many right
-ones of few days and small districts. None asks for what isn't built yet, another sun or a rule of nights. Compared are
+PROGRAM and REFERENCE are commands, each one argument; else they are ./timetable and reference/timetable.py. They are run
+with the word `order` on COUNT orders, of which about half are wrong somewhere, and with the word `plain` on a fifth as many
+right ones of few days and small districts. None asks for what isn't built yet, another sun or a rule of nights. Compared are
 the output, the error stream and the status. It prints what differs, and exits with 1 if anything did. The numbers of
 each status are printed last, to show what was met.
 """

@@ -1,9 +1,9 @@
 """Compares random lines of `sun`, as a program prints them, with those of a reference, byte for byte.
 
-    python3 compare/sun_lines.py COUNT PROGRAM REFERENCE [SEED]
+    python3 bench/sun_lines.py COUNT [PROGRAM [REFERENCE [SEED]]]
 
-PROGRAM and REFERENCE are commands, each one argument, as './timetable' or 'python3 reference.py': they are run with
-the words of `sun`. Compared are the output, the error stream and the status. The limits of each word are among them,
+PROGRAM and REFERENCE are commands, each one argument; else they are ./timetable and reference/timetable.py. They are run
+with the words of `sun`. Compared are the output, the error stream and the status. The limits of each word are among them,
 and spellings with and without a point. It prints what differs, and exits with 1 if anything did.
 """
 import sys
