@@ -100,7 +100,7 @@ def district(path, name, column, order, day, problem, minute, place):
     ends = bands(problem, minute, order.polygons)
     colors = (SLIVER,) + BANDS[:len(ends) - 2]
     figure, axes = pyplot.subplots(figsize=(8.4, 6.2), layout='constrained')
-    filled = axes.contourf(xs, ys, rows, levels=ends, colors=colors, extend='max')
+    filled = axes.contourf(xs, ys, rows, levels=ends, colors=colors)
     clip = PathPatch(path_of(order.polygons), transform=axes.transData, facecolor='none', edgecolor='none')
     axes.add_patch(clip)
     for part in filled.collections:

@@ -1,5 +1,6 @@
 """Borders out of any vector file that GDAL reads, as polygons in whole microdegrees of WGS 84."""
 import os
+import re
 from decimal import ROUND_HALF_UP, Decimal
 
 from geojson import FARTHEST_NORTH, MILLION, degrees
@@ -9,6 +10,7 @@ os.environ['PROJ_NETWORK'] = 'OFF'
 from osgeo import gdal, ogr, osr  # noqa: E402 (the line above is read when these load)
 
 gdal.UseExceptions()
+osr.UseExceptions()
 STEP_METRES = 1_000
 TURN = 360 * MILLION
 
@@ -65,9 +67,11 @@ def system_of(layer, path, name):
         raise Fault(f'{path}: it names its coordinate system itself ({own.GetName()}): leave --crs out')
     if own is not None:
         return lonlat(own.Clone())
+    if not re.fullmatch(r'EPSG:[0-9]{4,6}', name):
+        raise Fault(f'--crs {name}: it is no EPSG:N')
     system = osr.SpatialReference()
     try:
-        system.SetFromUserInput(name, ['ALLOW_NETWORK_ACCESS=NO', 'ALLOW_FILE_ACCESS=NO'])
+        system.ImportFromEPSG(int(name[5:]))
     except RuntimeError as error:
         raise Fault(f'--crs {name}: {error}')
     return lonlat(system)

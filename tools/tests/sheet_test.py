@@ -1,0 +1,71 @@
+"""Sheets: what they hold, what they refuse, and that they fit their pages."""
+import csv
+import hashlib
+import re
+import subprocess
+
+from common import ToolTest, example, needs_command, needs_module, read
+
+UNDECIDED = '''prayer timetable 1
+from 2000-01-01 days 1 method mwl asr standard zone 0 positions 4
+date         fajr  f.end  dhuhr    asr   magh  m.end   isha
+2000-01-01  04:44  **:**  ??:??  15:28  18:06  --:-- +00:17
+open dhuhr safe  12:03 from  12:02 cell 41722624 0 rank 363
+end days 1 open 1
+'''
+ORDER = ('{"from":"2000-01-01","days":1,"method":"mwl","asr":"standard","zone":0,'
+         '"district":{"type":"Polygon","coordinates":[[[0,0],[0,0],[0,0],[0,0]]]}}')
+
+
+class SheetTest(ToolTest):
+    def html(self, table, *orders, **more):
+        words = [word for order in orders for word in ('--order', order)]
+        self.done('sheet', table, *words, '--out', 's.html', '--title', 'A & B', *more.get('words', ()))
+        return read(self.path('s.html'))
+
+    def test_all_minutes_stand_on_the_sheet_and_where_they_come_from(self):
+        for layout, months in (('year', 12), ('months', 12)):
+            text = self.html(example('najran.txt'), example('najran.json'), words=('--layout', layout))
+            cells = re.findall(r'<td(?: class="end")?>([^<]*)</td>', text)
+            minutes = [e for line in read(example('najran.txt')).split('\n')[3:-2] for e in line.split()[1:]]
+            self.assertEqual((cells, text.count('<caption>')), (minutes, months))
+            line = self.program('order', example('najran.json'))
+            for said in (hashlib.sha256(line.encode()).hexdigest(), 'A &amp; B', 'clock UTC+03:00',
+                         hashlib.sha256(read(example('najran.txt')).encode()).hexdigest(),
+                         'from 2025-01-01 days 365 method makkah asr standard zone 180 positions 47'):
+                self.assertIn(said, text)
+
+    def test_marks_and_undecided_entries_are_explained(self):
+        text = self.html(self.write('t.txt', UNDECIDED), self.write('o.json', ORDER))
+        for said in ('<td class="open">??:??</td>', '2000-01-01 dhuhr: safe from 12:03;', '+00:17', '**:** every minute',
+                     '--:-- even the last'):
+            self.assertIn(said, text)
+
+    def test_a_joined_table_names_the_orders_of_its_parts(self):
+        self.done('join', example('najran.txt'), example('najran-city.txt'), '--out', 'j.txt')
+        text = self.html(self.path('j.txt'), example('najran.json'), example('najran-city.json'))
+        self.assertEqual(text.count('Canonical line of'), 2)
+        self.stopped('of 2 order(s)', 'sheet', 'j.txt', '--order', example('najran.json'), '--out', 's.html')
+
+    def test_what_does_not_belong_together_is_refused(self):
+        self.stopped('no table of this order', 'sheet', example('najran.txt'), '--order', example('bahrain.json'), '--out', 's.html')
+        self.stopped('with 4 were named', 'sheet', example('najran.txt'), '--order', example('najran-city.json'), '--out', 's.html')
+        self.stopped('give --order', 'sheet', example('najran.txt'), '--out', 's.html')
+        self.stopped('order refused 2 missing from', 'sheet', example('najran.txt'), '--order', self.write('o.json', '{}'),
+                     '--out', 's.html')
+        self.assertEqual(self.run_tool('sheet', example('najran.txt'), '--out', 's.doc').returncode, 2)
+
+    def test_csv_has_a_row_a_day(self):
+        self.done('sheet', example('bahrain.txt'), '--out', 's.csv')
+        with open(self.path('s.csv'), encoding='utf-8') as file:
+            rows = list(csv.DictReader(file))
+        self.assertEqual((len(rows), rows[0]['date'], rows[0]['fajr'], rows[-1]['isha']), (30, '2025-03-01', '04:44', '19:25'))
+
+    @needs_module('weasyprint', 'weasyprint')
+    @needs_command('pdfinfo', 'poppler-utils')
+    def test_a_year_is_one_sheet_and_a_month_one_page(self):
+        for layout, pages, size in (('year', 1, 'A3'), ('months', 12, 'A4')):
+            self.done('sheet', example('najran.txt'), '--order', example('najran.json'), '--layout', layout, '--out', 's.pdf')
+            told = subprocess.run(['pdfinfo', self.path('s.pdf')], capture_output=True, text=True, check=True).stdout
+            self.assertRegex(told, rf'Pages: +{pages}\n')
+            self.assertIn(f'({size})', told)
