@@ -7,7 +7,7 @@ ghost use Rattle.solar_terms.specs.Sun.{minutes_of, terms_of, grid_longitude, gr
 use crate::angles::{mean_anomaly, mean_longitude, obliquity, scaled_sine};
 use crate::ranges::plus;
 use crate::{Minutes, Sun};
-use trig_series::{Angle, cosine, sine};
+use trig_series::{Angle, sine_and_cosine};
 
 // L = q + 1.915 sin g + 0.020 sin 2g, in degrees.
 #[tactic(auto, unfolding(crate::specs::Sun::grid_longitude))]
@@ -27,7 +27,7 @@ fn longitude(m: Minutes) -> Angle
 pub fn sun(m: Minutes) -> Sun
     ensures { terms_of result ≡ grid_sun (minutes_of m) }
 {
-    let l = longitude(m);
-    let e = obliquity(m);
-    Sun::new(sine(l), cosine(l), sine(e), cosine(e), mean_longitude(m))
+    let l = sine_and_cosine(longitude(m));
+    let e = sine_and_cosine(obliquity(m));
+    Sun::new(l.sine, l.cosine, e.sine, e.cosine, mean_longitude(m))
 }

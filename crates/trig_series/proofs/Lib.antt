@@ -12,6 +12,7 @@ pub mod Linear
 pub mod QuarterLaws
 pub mod ExactQuarters
 pub mod GridQuarters
+pub mod RadianSteps
 pub mod SineSteps
 pub mod SineLaws
 pub mod SineNesting

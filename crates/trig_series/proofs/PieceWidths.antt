@@ -7,11 +7,12 @@ use Rattle.fixed_interval.specs.Grid.{Ends, Range, UNIT, DEPTH, reach, grid_prod
 use Rattle.fixed_interval.proofs.Widths.{grid_times_ratio_bounded}
 use Rattle.trig_series.specs.Laws.{sine_limit}
 use Rattle.trig_series.specs.Pi.{grid_pi}
-use Rattle.trig_series.specs.Quarters.{eighth_turn, quarter_turn, half_turn}
+use Rattle.trig_series.specs.Quarters.{Meets, eighth_turn, quarter_turn, half_turn, grid_piece}
 use Rattle.trig_series.specs.Series.{grid_term, grid_series, grid_one, grid_sine_series, grid_cosine_series}
 use Rattle.trig_series.specs.Sine.{modulo_4, grid_quarters_on, grid_sine_beyond}
 use Rattle.trig_series.proofs.Linear.{Linear, IsNarrow, product_linear, part_of_linear, sum_linear, margin_linear, term_linear, sum_of_linear, series_linear, product_narrow, negated_narrow, term_narrow, series_narrow, more_narrow, rounded_linear}
 use Rattle.trig_series.proofs.PiLaws.{grid_pi-is}
+use Rattle.trig_series.proofs.QuarterLaws.{piece_within}
 
 -- ---- one piece
 abbrev pub pi_top : ℕ
@@ -93,3 +94,7 @@ reach-radians r l o h = le_trans (radians_narrow quarter_turn r (small r l o h))
 
 pub reach-grid_sine_beyond : (c : ℤ) (r : Range) → neg_ℤ (pos eighth_turn) ≤ℤ r.lo → r.lo ≤ℤ r.hi → r.hi ≤ℤ pos eighth_turn → reach (grid_sine_beyond c r) ≤ sine_limit
 reach-grid_sine_beyond c r l o h = (sine_beyond_narrow quarter_turn c r (small r l o h)).bounded.size
+
+-- in a quarter that the range meets, with whole quarters added
+pub reach-in_quarter : (r : Range) (c d : ℤ) → r.lo ≤ℤ r.hi → Meets r c → reach (grid_sine_beyond d (grid_piece r c)) ≤ sine_limit
+reach-in_quarter r c d h m = let p = piece_within r c h m in reach-grid_sine_beyond d (grid_piece r c) p.0 p.1 p.2

@@ -111,3 +111,10 @@ is_piece range c s t low high h k o m es et el eh =
 
     in_order : (x y low high : ℤ) → x ≤ℤ pos eighth_turn → neg_ℤ (pos eighth_turn) ≤ℤ y → x ≤ℤ y → low ≡ int_max x (neg_ℤ (pos eighth_turn)) → high ≡ int_min y (pos eighth_turn) → low ≤ℤ high
     in_order x y low high p q r e f = omega (arith, ints, clamps)
+
+pub piece_within : (range : Range) (c : ℤ) → range.lo ≤ℤ range.hi → Meets range c → (neg_ℤ (pos eighth_turn) ≤ℤ (grid_piece range c).lo) × ((grid_piece range c).lo ≤ℤ (grid_piece range c).hi) × ((grid_piece range c).hi ≤ℤ pos eighth_turn)
+unfolding grid_piece
+piece_within range c h m = core (range.lo -ℤ (pos quarter_turn *ℤ c)) (range.hi -ℤ (pos quarter_turn *ℤ c)) (omega (arith, ints, m.ends_in_time)) (omega (arith, ints, m.begins_in_time)) (omega (arith, ints, h))
+  where
+    core : (x y : ℤ) → x ≤ℤ pos eighth_turn → neg_ℤ (pos eighth_turn) ≤ℤ y → x ≤ℤ y → (neg_ℤ (pos eighth_turn) ≤ℤ int_max x (neg_ℤ (pos eighth_turn))) × (int_max x (neg_ℤ (pos eighth_turn)) ≤ℤ int_min y (pos eighth_turn)) × (int_min y (pos eighth_turn) ≤ℤ pos eighth_turn)
+    core x y p q r = (omega (arith, ints, clamps), omega (arith, ints, clamps), omega (arith, ints, clamps))

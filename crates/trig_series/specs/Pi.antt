@@ -32,3 +32,10 @@ pi n = record {
 -- the grid's pi is rounded once
 unfoldable pub grid_pi : Ends
 grid_pi = rounded_out (pi DEPTH)
+
+-- and these are its ends
+abbrev pub pi_low : ℕ
+pi_low = 226_375_608_064_910_088
+
+abbrev pub pi_high : ℕ
+pi_high = 226_375_608_064_910_089

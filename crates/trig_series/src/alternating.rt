@@ -30,6 +30,15 @@ pub(crate) fn cosine_of_magnitudes(x: Magnitudes) -> Interval
     series(Magnitudes::one(), x.product(x), 0)
 }
 
+/// The sine and the cosine of x radians, for an x from 0 to 1.
+pub(crate) fn both_of_magnitudes(x: Magnitudes) -> (Interval, Interval)
+    ensures sine { ends result.0 ≡ grid_sine_series (ends_of x) }
+    ensures cosine { ends result.1 ≡ grid_cosine_series (ends_of x) }
+{
+    let square = x.product(x);
+    (series(x, square, 1), series(Magnitudes::one(), square, 0))
+}
+
 /// Some terms of a series added up, and the magnitudes of the next one, which is to be added.
 #[derive(Clone, Copy)]
 pub(crate) struct PartialSum {
@@ -39,6 +48,7 @@ pub(crate) struct PartialSum {
 
 /// The terms of a series added up, with the margin of the first one left out.
 /// `first` is the first term, `power` its power of x, and `square` the square of x.
+#[inline(always)]
 fn series(first: Magnitudes, square: Magnitudes, power: u64) -> Interval
     requires { power ≤ 1 }
     ensures value { ends result ≡ grid_series (grid_term power (ends_of first) (ends_of square)) DEPTH }
@@ -68,6 +78,7 @@ fn none_added(first: Magnitudes) -> PartialSum
 }
 
 /// With the next term added and the one behind it taken away. The next term is of this power of x.
+#[inline(always)]
 fn with_pair(sum: PartialSum, square: Magnitudes, power: u64) -> PartialSum
     requires power_small { power ≤ 28 }
     requires total_small { reach (short_ends sum.total) ≤ 10 * UNIT }
@@ -81,6 +92,7 @@ fn with_pair(sum: PartialSum, square: Magnitudes, power: u64) -> PartialSum
 }
 
 /// The same where each term that is left is like the next one.
+#[inline(always)]
 fn with_level_pair(sum: PartialSum) -> PartialSum
     requires { reach (short_ends sum.total) ≤ 10 * UNIT }
     ensures value { (p j : ℕ) (first square : Ends) → ((n : ℕ) → 1 ≤ n → grid_divide_by (grid_product (ends_of sum.next) square) n ≡ ends_of sum.next) → HasTerms p first square j sum → HasTerms p first square (j + 2) result }
@@ -103,6 +115,7 @@ fn with_margin(sum: PartialSum) -> Interval
 }
 
 /// The magnitudes of the term that follows `term`, whose power of x is `power`.
+#[inline(always)]
 fn next_term(term: Magnitudes, square: Magnitudes, power: u64) -> Magnitudes
     requires { power ≤ 30 }
     ensures { ends_of result ≡ grid_divide_by (grid_product (ends_of term) (ends_of square)) ((power + 1) * (power + 2)) }

@@ -7,6 +7,7 @@ mod by_sign;
 mod laws;
 mod magnitudes;
 mod quarters;
+mod radians;
 mod series;
 mod short;
 #[cfg(test)]
@@ -14,11 +15,12 @@ mod tests;
 
 ghost use Rattle.std.specs.Prelude.{◌≡◌, ◌^◌, ◌≤◌, ◌≤ℤ◌, unsigned_abs};
 
+pub use by_sign::SineAndCosine;
 pub use laws::{
     grid_sines_are_monotone, grid_sines_hold_exact, sines_are_bounded, sines_are_monotone,
     sines_are_ordered, sines_nest,
 };
-pub use quarters::{SineAndCosine, cosine, sine, sine_and_cosine};
+pub use quarters::{cosine, sine, sine_and_cosine};
 pub use series::pi;
 
 /// A range of angles from `lo` to `hi`, in whole angle units, of which 144,000,000,000 make one degree.

@@ -75,6 +75,7 @@ impl Magnitudes {
     }
 
     /// All products of a number of each.
+    #[inline(always)]
     pub(crate) fn product(self, other: Magnitudes) -> Magnitudes
         ensures { ends_of result ≡ grid_product (ends_of self) (ends_of other) }
     {
@@ -85,6 +86,7 @@ impl Magnitudes {
     }
 
     /// All numbers over `n`, which is at least 1.
+    #[inline(always)]
     pub(crate) fn divide_by(self, n: u64) -> Magnitudes
         requires { 1 ≤ n }
         ensures { ends_of result ≡ grid_divide_by (ends_of self) n }

@@ -11,6 +11,6 @@ pub returns-clause-value : goal.returns-clause-value
 returns-clause-value c =
     let angle = c.args.angle in
     let from_seam : bits_of (pos eighth_turn -ℤ bits_of angle) ≡ pos eighth_turn -ℤ angle = omega (arith, ints) in
-    let quotient : c.div_euclid.result ≡ int_div_euclid (pos eighth_turn -ℤ angle) (pos quarter_turn) = c.div_euclid.ensures ∙ ap (λ (z : ℤ). int_div_euclid z (pos quarter_turn)) from_seam in
-    let turned : bits_of (pos 0 -ℤ bits_of c.div_euclid.result) ≡ neg_ℤ c.div_euclid.result = omega (arith, ints, quotient, div-parts (pos eighth_turn -ℤ angle) quarter_turn (omega arith)) in
+    let quotient : c.whole_quarters.result ≡ int_div_euclid (pos eighth_turn -ℤ angle) (pos quarter_turn) = c.whole_quarters.ensures ∙ ap (λ (z : ℤ). int_div_euclid z (pos quarter_turn)) from_seam in
+    let turned : bits_of (pos 0 -ℤ bits_of c.whole_quarters.result) ≡ neg_ℤ c.whole_quarters.result = omega (arith, ints, quotient, div-parts (pos eighth_turn -ℤ angle) quarter_turn (omega arith)) in
     turned ∙ ap neg_ℤ quotient ∙ sym (first_quarter-whole angle)

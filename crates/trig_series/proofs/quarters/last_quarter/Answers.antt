@@ -11,6 +11,6 @@ pub returns-clause-value : goal.returns-clause-value
 returns-clause-value c =
     let angle = c.args.angle in
     let from_seam : bits_of (bits_of angle +ℤ pos eighth_turn) ≡ angle +ℤ pos eighth_turn = omega (arith, ints) in
-    let quotient : c.div_euclid.result ≡ int_div_euclid (angle +ℤ pos eighth_turn) (pos quarter_turn) = c.div_euclid.ensures ∙ ap (λ (z : ℤ). int_div_euclid z (pos quarter_turn)) from_seam in
-    let turned : bits_of c.div_euclid.result ≡ c.div_euclid.result = omega (arith, ints, quotient, div-parts (angle +ℤ pos eighth_turn) quarter_turn (omega arith)) in
+    let quotient : c.whole_quarters.result ≡ int_div_euclid (angle +ℤ pos eighth_turn) (pos quarter_turn) = c.whole_quarters.ensures ∙ ap (λ (z : ℤ). int_div_euclid z (pos quarter_turn)) from_seam in
+    let turned : bits_of c.whole_quarters.result ≡ c.whole_quarters.result = omega (arith, ints, quotient, div-parts (angle +ℤ pos eighth_turn) quarter_turn (omega arith)) in
     turned ∙ quotient ∙ sym (last_quarter-whole angle)
