@@ -4,6 +4,7 @@ pub mod EntryLaws
 pub mod ExtentLemmas
 pub mod InBounds
 pub mod JudgeLemmas
+pub mod KindLaws
 pub mod NamedLemmas
 pub mod PointLemmas
 pub mod SkyLaws

@@ -34,11 +34,11 @@ use Rattle.cell_split.specs.Cells.{IsCell, is_smallest}
 use Rattle.cell_split.specs.Laws.{box_of}
 use Rattle.cell_split.proofs.CellLemmas.{cell_limits}
 use Rattle.cell_judge.specs.Conditions.{Fails, Holds, IsNear, holds_above, spot_of, tolerance_bits, value_at}
-use Rattle.cell_judge.specs.Points.{point_of}
+use Rattle.cell_judge.specs.Points.{IsPoint, point_of}
 use Rattle.cell_judge.specs.Scenes.{FailsAt, HoldsAt, IsNearAt, IsOpenAt, IsPlaceOf, IsRankOf, IsRefutedAt, IsTrueVerdict, Scene}
 use Rattle.cell_judge.specs.Skies.{between, grid_value, lies_above, lies_below, minutes_at, places_at, row_at, shows_failed, shows_held, verdict_at, verdict_by, verdict_on, verdict_with}
 use Rattle.cell_judge.specs.Limits.{IsInLimits}
-use Rattle.cell_judge.specs.SkyLaws.{IsRow, IsSun, ProblemsAreRows, SkiesTellTheTruth, VerdictsOfEverySunAreTrue, scene_at}
+use Rattle.cell_judge.specs.SkyLaws.{IsRow, IsSun, NamedPlacesArePoints, ProblemsAreRows, SkiesTellTheTruth, VerdictsOfEverySunAreTrue, scene_at}
 use Rattle.cell_judge.proofs.EntryLaws.{conditions_are_one_sided}
 use Rattle.cell_judge.proofs.NamedLemmas.{named_is_point}
 use Rattle.cell_judge.proofs.PointLemmas.{place_of_point}
@@ -100,6 +100,26 @@ in_limits row cell is first last = by_side row.side
     by_side : (s : Side) → unsigned_abs (between s (row.base +ℤ minute_at s row.first row.last cell.first) (row.base +ℤ minute_at s row.first row.last cell.last)).lo ≤ 53_200_000
     by_side Start = omega (arith, ints, is.framed, is.limits.not_before, is.limits.not_after)
     by_side End = omega (arith, ints, is.framed, is.limits.not_before, is.limits.not_after)
+
+-- ---- the place that is named
+
+named_fits : (polygons : List Polygon) → first_fault polygons ≡ None → (cell : Cell) → IsCell cell → (p : Place)
+    → named (box_of cell) polygons ≡ Some p → IsIn (box_of cell) p → IsPoint p
+named_fits polygons faultless cell is_cell p h inside =
+    let limits = cell_limits cell is_cell in
+    named_is_point (box_of cell) polygons p faultless (record {
+      x0 = record { low = omega (arith, ints, limits.west); high = omega (arith, ints, limits.east) };
+      x1 = record { low = omega (arith, ints, limits.west); high = omega (arith, ints, limits.east) };
+      y0 = record { low = omega (arith, ints, limits.south); high = omega (arith, ints, limits.north) };
+      y1 = record { low = omega (arith, ints, limits.south); high = omega (arith, ints, limits.north) };
+    }) h inside
+
+pub named_places_are_points : NamedPlacesArePoints
+named_places_are_points polygons faultless cell is_cell p h =
+    let ordered : IsOrdered (box_of cell) = record { x_ordered = omega (arith, ints); y_ordered = omega (arith, ints) } in
+    let found = subst (λ (o : Option Place). MatchOption o ((q : Place) → IsIn (box_of cell) q → is_in_district q polygons ≡ false) (λ q. IsIn (box_of cell) q × (is_in_district q polygons ≡ true)))
+    h (names_exactly (box_of cell) polygons ordered (sound polygons faultless).closed) in
+    place_of_point p (named_fits polygons faultless cell is_cell p h found.0)
 
 -- ---- the verdict
 
@@ -168,13 +188,7 @@ module _ (sun : SunSource) (grid : Range → SunTerms) (is_sun : IsSun sun grid)
   by_named (Some p) h =
       let found = subst (λ (o : Option Place). MatchOption o ((p : Place) → IsIn (box_of cell) p → is_in_district p polygons ≡ false) (λ p. IsIn (box_of cell) p × (is_in_district p polygons ≡ true)))
       h (names_exactly (box_of cell) polygons box_ordered (sound polygons faultless).closed) in
-      let limits = cell_limits cell is_cell in
-      let fits = named_is_point (box_of cell) polygons p faultless (record {
-        x0 = record { low = omega (arith, ints, limits.west); high = omega (arith, ints, limits.east) };
-        x1 = record { low = omega (arith, ints, limits.west); high = omega (arith, ints, limits.east) };
-        y0 = record { low = omega (arith, ints, limits.south); high = omega (arith, ints, limits.north) };
-        y1 = record { low = omega (arith, ints, limits.south); high = omega (arith, ints, limits.north) };
-      }) h found.0 in
+      let fits = named_fits polygons faultless cell is_cell p h found.0 in
       by_tests p (point_of p) (place_of_point p fits) found.0 (record { positive = found.0.positive; inside = found.1 })
       (shows_held row.kind value) (shows_failed row.kind value) (is_smallest cell) refl refl refl
 

@@ -1,4 +1,4 @@
--- The judge of the sky keeps the law of judges.
+-- The judge of the sky keeps the law of judges. An `impl` takes the proof of a law from specs alone, so it stands here.
 use Rattle.std.specs.Prelude.{◌≡◌, Bool, true, false, if◌then◌else◌, List, Option, Some, None, refl}
 use Rattle.std.proofs.lemmas.Bool.{false≢true}
 use Rattle.fixed_interval.specs.Grid.{Range}

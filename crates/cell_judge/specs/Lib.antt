@@ -11,5 +11,6 @@ pub mod Sines
 pub mod Skies
 pub mod Lawful
 pub mod SkyLaws
+pub mod KindLaws
 pub mod DayLaws
 pub mod Made

@@ -1,5 +1,5 @@
 -- What is true of the judge of the sky, as sentences.
-use Rattle.std.specs.Prelude.{◌≡◌, ℕ, ◌<◌, ◌≤◌, pos, ◌+ℤ◌, List, length, map, None, unsigned_abs}
+use Rattle.std.specs.Prelude.{◌≡◌, ℕ, ◌<◌, ◌≤◌, pos, ◌+ℤ◌, List, length, map, None, Some, unsigned_abs}
 use Rattle.fixed_interval.specs.Grid.{Range}
 use Rattle.solar_terms.specs.Sun.{SunTerms, exact_sun}
 use Rattle.solar_terms.specs.SunLaws.{SunSource, IsSunSource, GridHoldsSun}
@@ -7,12 +7,17 @@ use Rattle.solar_terms.specs.SunWidths.{IsNarrowSun}
 use Rattle.method_table.specs.declared.problem.Problem.{Problem}
 use Rattle.method_table.specs.Kind.{IsKind}
 use Rattle.method_table.specs.Row.{Row, row_of}
+use Rattle.region.specs.Plane.{Place}
 use Rattle.region.specs.Rings.{Polygon}
+use Rattle.region.specs.Named.{named}
+use Rattle.region.specs.Views.{place_of}
 use Rattle.region.specs.Faults.{first_fault}
 use Rattle.cell_split.specs.declared.cell.Cell.{Cell}
 use Rattle.cell_split.specs.Cells.{IsCell, IsRoot}
+use Rattle.cell_split.specs.Laws.{box_of}
 use Rattle.cell_judge.specs.EntryLaws.{LiesInRoot, TellsTruth}
 use Rattle.cell_judge.specs.Limits.{AreInLimits, IsInLimits, IsOver}
+use Rattle.cell_judge.specs.Points.{point_of}
 use Rattle.cell_judge.specs.Scenes.{Scene, IsTrueVerdict}
 use Rattle.cell_judge.specs.Skies.{row_at, sky_content, verdict_on}
 
@@ -55,3 +60,9 @@ ProblemsAreRows =
 -- every place of a district lies in the box of a root that is over its positions
 abbrev pub DistrictsLieInRootsOverThem : Type 0
 DistrictsLieInRootsOverThem = (s : Scene) (root : Cell) → first_fault s.polygons ≡ None → IsOver root s.polygons → LiesInRoot s root
+
+-- the place that is named for a root's cell is within the limits of points, so that its point is at the place itself
+abbrev pub NamedPlacesArePoints : Type 0
+NamedPlacesArePoints =
+    (polygons : List Polygon) → first_fault polygons ≡ None → (cell : Cell) → IsCell cell → (p : Place) →
+    named (box_of cell) polygons ≡ Some p → place_of (point_of p) ≡ p

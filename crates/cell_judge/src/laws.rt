@@ -1,8 +1,9 @@
 // What is true of the judge of the sky and of the entries of the table, each law the contract of a function that does nothing.
 ghost use Rattle.cell_judge.specs.DayLaws.{DaysAreInLimits, DaysHaveRows};
 ghost use Rattle.cell_judge.specs.EntryLaws.{DistrictsLieInTheirRoot, TrueVerdictsMakeRightEntries, ConditionsAreOneSided, OneDecidedEntryIsRight};
+ghost use Rattle.cell_judge.specs.KindLaws.{GridHoldsEveryKind, ValuesOfEveryKindNarrow};
 ghost use Rattle.cell_judge.specs.Lawful.{SkiesAreLawful};
-ghost use Rattle.cell_judge.specs.SkyLaws.{DistrictsLieInRootsOverThem, ProblemsAreRows, SkiesTellTheTruth, VerdictsOfEverySunAreTrue};
+ghost use Rattle.cell_judge.specs.SkyLaws.{DistrictsLieInRootsOverThem, NamedPlacesArePoints, ProblemsAreRows, SkiesTellTheTruth, VerdictsOfEverySunAreTrue};
 
 /// Under every sun a verdict is true: where a cell is proved, the condition holds at every place of the district in the
 /// box at every rank; where it is refuted, it fails at the point at every rank; where it is outside, no place of the
@@ -60,4 +61,19 @@ pub fn conditions_are_one_sided()
 /// Of all entries that are no undecided ones at most one is right.
 pub fn one_decided_entry_is_right()
     ensures { OneDecidedEntryIsRight }
+{}
+
+/// The place that is named for a cell of a root is never beyond the limits of points.
+pub fn named_places_are_points()
+    ensures { NamedPlacesArePoints }
+{}
+
+/// Over less of the sky or at a greater depth the exact value of every kind lies in what it was before.
+pub fn values_of_every_kind_narrow()
+    ensures { ValuesOfEveryKindNarrow }
+{}
+
+/// The value of every kind on the grid holds the exact value of each part of its sun, minutes and places.
+pub fn grid_holds_every_kind()
+    ensures { GridHoldsEveryKind }
 {}

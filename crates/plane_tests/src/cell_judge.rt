@@ -1,10 +1,8 @@
 // Verdicts of skies beside those of a slow reference program and the worked table of one place.
-ghost use Rattle.std.specs.Prelude.{◌≡◌, None, IfOk, neg_ℤ, pos, ◌≤ℤ◌};
-ghost use Rattle.region.specs.Faults.{first_fault};
+ghost use Rattle.std.specs.Prelude.{neg_ℤ, pos, ◌≤◌, ◌≤ℤ◌};
 ghost use Rattle.cell_judge.specs.Limits.{AreInLimits};
 
-use crate::Sky;
-use crate::judge::root_over;
+use cell_judge::Sky;
 use cell_split::{Cell, Judge, Task, Verdict, root_at, within};
 use method_table::{Asr, Method, Problem, problems};
 use region::{District, RegionFault};
@@ -36,9 +34,7 @@ const SQUARE: &[&[(i64, i64)]] = &[
     ],
 ];
 
-fn district(alloc: Global, rings: &[&[(i64, i64)]]) -> Result<District, RegionFault>
-    ensures { IfOk result (λ d. first_fault d ≡ None) }
-{
+fn district(alloc: Global, rings: &[&[(i64, i64)]]) -> Result<District, RegionFault> {
     let mut copies = Vec::new(alloc);
     for ring in rings {
         copies.push(ring.to_vec(alloc)?)?;
@@ -167,6 +163,8 @@ const CASES: &[Case] = &[
         "outside",
         NOTHING,
     ),
+    // One beyond the district's greatest longitude.
+    (0, (520_093_696, 0, 24), (0, 720), "outside", NOTHING),
     // Large boxes that don't.
     (
         0,
@@ -340,10 +338,13 @@ fn cells_are_judged_as_by_the_reference(rt: HostRuntime) -> Result<(), Fail> {
 
 #[test]
 fn a_sky_turns_to_another_day(rt: HostRuntime) -> Result<(), Fail> {
-    let district = district(rt.alloc(), POINT)?;
-    let root = root_over(&district);
-    let mut sky = Sky::new_in(rt.alloc(), district, problems_of(DAY, 720), root)?;
-    assert_eq!(rt; sky.root(), root_at(100_000, 0));
+    let mut sky = Sky::new(
+        rt.alloc(),
+        district(rt.alloc(), POINT)?,
+        problems_of(DAY, 720),
+    )?;
+    let root = root_at(100_000, 0);
+    assert_eq!(rt; sky.root(), root);
     let noon = Cell {
         size: 4,
         first: 363,
@@ -356,5 +357,52 @@ fn a_sky_turns_to_another_day(rt: HostRuntime) -> Result<(), Fail> {
     assert_eq!(rt; told(judged(&rt, &sky, 2, noon)).0, "refuted");
     assert_eq!(rt; sky.problem(2).base, 180 * 1440 - 720);
     assert_eq!(rt; sky.root(), root);
+    Ok(())
+}
+
+// So many squares of a thousandth of a degree beside each other on the equator, as far apart.
+fn squares(alloc: Global, count: u32) -> Result<District, RegionFault>
+    requires { count ≤ 1000 }
+{
+    let mut polygons = Vec::new(alloc);
+    for i in 0..count {
+        let west = i64::from(i) * 2_000;
+        let east = west + 1_000;
+        let mut ring = Vec::new(alloc);
+        ring.push((west, 0))?;
+        ring.push((east, 0))?;
+        ring.push((east, 1_000))?;
+        ring.push((west, 1_000))?;
+        ring.push((west, 0))?;
+        let mut rings = Vec::new(alloc);
+        rings.push(ring)?;
+        polygons.push(rings)?;
+    }
+    District::new(alloc, polygons)
+}
+
+#[test]
+fn each_of_a_hundred_polygons_is_judged(rt: HostRuntime) -> Result<(), Fail> {
+    let sky = Sky::new(
+        rt.alloc(),
+        squares(rt.alloc(), 100)?,
+        problems_of(DAY, 720),
+    )?;
+    assert_eq!(rt; sky.district().polygon_count(), 100);
+    for i in 0..100 {
+        let inside = Cell {
+            x: i64::from(i) * 256_000 + 64_000,
+            y: 64_000,
+            size: 4,
+            first: 720,
+            last: 720,
+        };
+        let between = Cell {
+            x: inside.x + 128_000,
+            ..inside
+        };
+        assert_eq!(rt; judged(&rt, &sky, 0, inside), Verdict::Proved, "{i}");
+        assert_eq!(rt; judged(&rt, &sky, 0, between), Verdict::Outside, "{i}");
+    }
     Ok(())
 }
