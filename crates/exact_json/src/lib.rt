@@ -20,5 +20,3 @@ pub use laws::{every_text_is_read, readings_agree};
 pub use reader::read;
 pub use value::{Json, JsonList, JsonTable, JsonText};
 
-#[cfg(test)]
-mod tests;

@@ -31,9 +31,3 @@ pub use order::Order;
 pub use ranges::Ranges;
 pub use read::read_order;
 
-#[cfg(test)]
-mod geometry_tests;
-#[cfg(test)]
-mod line_tests;
-#[cfg(test)]
-mod tests;

@@ -14,5 +14,3 @@ pub use head::{SunChoice, end_line, sun_word, table_head};
 pub use offset::day_offset;
 pub use zone::{Rule, RuleFault, Zone, read_rule};
 
-#[cfg(test)]
-mod tests;

@@ -1,8 +1,9 @@
-use crate::{
+// Orders, right ones and wrong ones, with the first refusal of each.
+use exact_json::JsonFault;
+use order_reader::{
     OrderFault, every_text_is_read_or_refused, line_readings_agree, member_word,
     order_readings_agree, orders_keep_the_rule, read_order, read_order_line,
 };
-use exact_json::JsonFault;
 use region::RegionFault;
 use std::alloc::{AllocError, Global};
 use std::process::Abort;
@@ -190,6 +191,55 @@ fn districts_have_forms_and_extents(rt: HostRuntime) -> Result<(), Fail> {
         ("[40,21]", "[40,65.5]", "region 5"),
     ];
     with_changes(&rt, rt.alloc(), &rows)
+}
+
+// The order and the line with another district.
+const DISTRICT: &str =
+    r#"{"type":"Polygon","coordinates":[[[39,21],[40,21],[40,22],[39,22],[39,21]]]}"#;
+
+const LISTS: &str =
+    "[[[[39000000,21000000],[40000000,21000000],[40000000,22000000],[39000000,21000000]]]]";
+
+#[test]
+fn other_forms_are_no_district(rt: HostRuntime) -> Result<(), Fail> {
+    let alloc = rt.alloc();
+    for district in [
+        "{}",
+        r#"{"type":"Point","coordinates":[1,2]}"#,
+        r#"{"type":7,"coordinates":[]}"#,
+        r#"{"type":"Polygon"}"#,
+        r#"{"type":"Polygon","coordinates":{}}"#,
+        r#"{"type":"Polygon","coordinates":[[[1]]]}"#,
+        r#"{"type":"Polygon","coordinates":[[["1",2]]]}"#,
+        r#"{"type":"Polygon","coordinates":[[1,2]]}"#,
+        r#"{"type":"Polygon","type":"Polygon","coordinates":[]}"#,
+        r#"{"type":"Polygon","coordinates":[],"coordinates":[]}"#,
+        r#"{"type":"Polygon","coordinates":[],"features":0,"features":0}"#,
+        r#"{"type":"MultiPolygon","coordinates":[[[[1,2]]],0]}"#,
+        r#"{"type":"Feature","coordinates":[]}"#,
+        r#"{"type":"Feature","geometry":{"type":"Feature","geometry":{"type":"Polygon","coordinates":[]}}}"#,
+        r#"{"type":"Feature","geometry":{"type":"Polygon","coordinates":[]},"geometry":0}"#,
+        r#"{"type":"Feature","geometry":null}"#,
+        r#"{"type":"FeatureCollection","features":[]}"#,
+        r#"{"type":"FeatureCollection","features":[{"type":"Polygon","coordinates":[]}]}"#,
+        r#"{"type":"FeatureCollection","features":[{"type":"Feature","geometry":{"type":"Polygon","coordinates":[]}},{"type":"Feature","geometry":{"type":"Polygon","coordinates":[]}}]}"#,
+    ] {
+        let text = ORDER.replace(alloc, DISTRICT, district)?;
+        let got = answer(alloc, text.as_str())?;
+        assert_eq!(rt; got.as_str(), "geometry", "at {district}");
+    }
+    for district in [
+        "[[[[1,2,3]]]]",
+        "[[[[1.5,2]]]]",
+        "[[[[1,1e16]]]]",
+        "[[[1]]]",
+        "[{}]",
+    ] {
+        let text = LINE.replace(alloc, LISTS, district)?;
+        let got = line_answer(alloc, text.as_str())?;
+        assert_eq!(rt; got.as_str(), "geometry", "at {district}");
+    }
+    Ok(())
 }
 
 #[test]

@@ -1,15 +1,15 @@
 // Worked rows of zones and lines.
 ghost use Rattle.std.specs.Prelude.{◌≡◌};
 
-use crate::{
-    SunChoice, Zone, date_text, day_line, day_offset, end_line, entry_text, open_line, read_rule,
-    sun_word, table_head,
-};
 use cell_split::{Cell, Entry};
 use method_table::{Asr, Method, problems};
 use std::alloc::Global;
 use std::process::Abort;
 use std::test::Fail;
+use year_table::{
+    SunChoice, Zone, date_text, day_line, day_offset, end_line, entry_text, open_line, read_rule,
+    sun_word, table_head,
+};
 
 // rule, day since 1970-01-01, offset in minutes
 const OFFSETS: [(&str, i32, Option<i32>); 82] = [

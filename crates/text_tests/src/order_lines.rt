@@ -1,4 +1,5 @@
-use crate::{order_line, read_order, read_order_line};
+// Orders with their canonical lines.
+use order_reader::{order_line, read_order, read_order_line};
 use std::alloc::{AllocError, Global};
 use std::test::Fail;
 

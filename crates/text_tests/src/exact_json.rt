@@ -1,5 +1,5 @@
-use crate::reader::read;
-use crate::{Decimal, Json, JsonFault};
+// Texts, with the trees, the numbers or the first faults that an independent reader gives.
+use exact_json::{Decimal, Json, JsonFault, read};
 use std::alloc::{AllocError, Global};
 use std::test::Fail;
 
