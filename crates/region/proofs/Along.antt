@@ -11,30 +11,30 @@ use Rattle.std.specs.Option.{option_or}
 use Rattle.std.proofs.lemmas.List.Folds.{list_any-append}
 use Rattle.region.specs.Plane.{Place, Segment, Box, is_on, crosses}
 use Rattle.region.specs.Rings.{Position, Ring, Polygon, edges_from, ring_edges, polygon_edges, xor}
-use Rattle.region.specs.Extent.{is_far, is_step, is_short_from}
+use Rattle.region.specs.Extent.{is_far, is_step, is_compact_from}
 use Rattle.region.specs.Named.{first_point}
 use Rattle.region.proofs.Truth.{and_left, and_right, not_false, neither}
 use Rattle.region.proofs.Odd.{odd_by, odd_by-append, xor_assoc}
 use Rattle.region.proofs.Wholly.{first_point-append}
 
 pub record Touched (p : Place) (first : Position) (all : Ring) (previous : Position) (left : Ring) (on odd : Bool) : Type 0 where
-  pub short : is_short_from previous left ≡ true
+  pub short : is_compact_from previous left ≡ true
   pub on_is : (on || list_any (is_on p) (edges_from previous left)) ≡ list_any (is_on p) (edges_from first all)
   pub odd_is : xor odd (odd_by (crosses p) (edges_from previous left)) ≡ odd_by (crosses p) (edges_from first all)
 
 pub record Passed (box : Box) (first : Position) (all : Ring) (previous : Position) (left : Ring) : Type 0 where
-  pub short : is_short_from previous left ≡ true
+  pub short : is_compact_from previous left ≡ true
   pub none : first_point box (edges_from previous left) ≡ first_point box (edges_from first all)
 
 -- ---- near positions and short steps
 
-pub short_start : (p : Position) (left : Ring) → is_short_from p left ≡ true → is_far p ≡ false
+pub short_start : (p : Position) (left : Ring) → is_compact_from p left ≡ true → is_far p ≡ false
 short_start p [] h = not_false (is_far p) h
-short_start p (q ∷ rest) h = not_false (is_far p) (and_left (not (is_far p)) (is_step p q && is_short_from q rest) h)
+short_start p (q ∷ rest) h = not_false (is_far p) (and_left (not (is_far p)) (is_step p q && is_compact_from q rest) h)
 
-pub short_rest : (p q : Position) (rest : Ring) → is_short_from p (q ∷ rest) ≡ true → is_short_from q rest ≡ true
+pub short_rest : (p q : Position) (rest : Ring) → is_compact_from p (q ∷ rest) ≡ true → is_compact_from q rest ≡ true
 short_rest p q rest h =
-    and_right (is_step p q) (is_short_from q rest) (and_right (not (is_far p)) (is_step p q && is_short_from q rest) h)
+    and_right (is_step p q) (is_compact_from q rest) (and_right (not (is_far p)) (is_step p q && is_compact_from q rest) h)
 
 magnitude_within : (n : ℕ) (z : ℤ) → unsigned_abs z ≤ n → IsWithin (pos n) z
 magnitude_within n z h = record { low = omega (arith, ints); high = omega (arith, ints) }
@@ -87,7 +87,7 @@ is_edge p q g h k =
     }
 
 -- the next position of what is left
-pub short_next : (p : Position) (all : Ring) (i : ℕ) → i < length all → is_short_from p (drop i all) ≡ true
+pub short_next : (p : Position) (all : Ring) (i : ℕ) → i < length all → is_compact_from p (drop i all) ≡ true
     → is_far (get_or all i (pos 0, pos 0)) ≡ false
 short_next p all i h s =
     let left = drop-cons all i (pos 0, pos 0) h in
@@ -132,14 +132,14 @@ pub next_left : {A : Type 0} (xs : List A) (i : ℕ) (x : A) → i < length xs �
     → drop i xs ≡ x ∷ drop (i + 1) xs
 next_left xs i x h e = drop-cons xs i x h ∙ rw (add-one) (ap (λ y. y ∷ drop (suc i) xs) (sym e))
 
-pub short_step : (p : Position) (all : Ring) (i : ℕ) → i < length all → is_short_from p (drop i all) ≡ true
+pub short_step : (p : Position) (all : Ring) (i : ℕ) → i < length all → is_compact_from p (drop i all) ≡ true
     → is_step p (get_or all i (pos 0, pos 0)) ≡ true
 short_step p all i h s =
     let left = drop-cons all i (pos 0, pos 0) h in
     let q = get_or all i (pos 0, pos 0) in
     let rest = drop (suc i) all in
-    and_left (is_step p q) (is_short_from q rest)
-    (and_right (not (is_far p)) (is_step p q && is_short_from q rest) (rw left at s))
+    and_left (is_step p q) (is_compact_from q rest)
+    (and_right (not (is_far p)) (is_step p q && is_compact_from q rest) (rw left at s))
 
 pub next_position : (all : Ring) (i : ℕ) → i < length all → drop i all ≡ get_or all i (pos 0, pos 0) ∷ drop (i + 1) all
 next_position all i h = drop-cons all i (pos 0, pos 0) h ∙ rw add-one refl

@@ -5,7 +5,7 @@ use Rattle.std.proofs.Math.IntN.{ℤ, pos, ◌+ℤ◌, ◌-ℤ◌, ◌*ℤ◌, n
 use Rattle.std.specs.Prelude.{◌≤ℤ◌, ◌<ℤ◌, int_lt}
 use Rattle.std.specs.Ordering.{int_eq}
 use Rattle.std.proofs.lemmas.Int.{ints, by_lt_z}
-use Rattle.region.specs.Plane.{Place, Segment, Box, IsIn, side, encloses}
+use Rattle.region.specs.Plane.{Place, Segment, Box, IsIn, orientation, encloses}
 use Rattle.region.specs.Named.{progress, passing, at_start, at_longitude, at_latitude, edge_point}
 use Rattle.region.proofs.Truth.{and_true, or_left, or_right, some_when, map_none, or_none_left, or_none_right, le_true}
 use Rattle.region.proofs.Products.{expand, mul_nonneg, mul_pos, factor_pos}
@@ -15,8 +15,8 @@ pub data Apart (box : Box) (e : Segment) : Type 0 where
   beyond_east : box.x1 <ℤ e.xa → box.x1 <ℤ e.xb → Apart box e
   beyond_south : e.ya <ℤ box.y0 → e.yb <ℤ box.y0 → Apart box e
   beyond_north : box.y1 <ℤ e.ya → box.y1 <ℤ e.yb → Apart box e
-  box_left : ((p : Place) → IsIn box p → pos 0 <ℤ side e p) → Apart box e
-  box_right : ((p : Place) → IsIn box p → side e p <ℤ pos 0) → Apart box e
+  box_left : ((p : Place) → IsIn box p → pos 0 <ℤ orientation e p) → Apart box e
+  box_right : ((p : Place) → IsIn box p → orientation e p <ℤ pos 0) → Apart box e
 
 -- ---- where an edge does not pass z from low to high, on its way up from u to v
 
@@ -114,7 +114,7 @@ neg_of_pos a p = omega (arith, ints)
 
 rising_left : (box : Box) (e : Segment) → e.xa ≤ℤ e.xb → e.ya ≤ℤ e.yb
     → pos 0 <ℤ ((e.xb -ℤ e.xa) *ℤ (box.y0 -ℤ e.ya) -ℤ (e.yb -ℤ e.ya) *ℤ (box.x1 -ℤ e.xa))
-    → (p : Place) → IsIn box p → pos 0 <ℤ side e p
+    → (p : Place) → IsIn box p → pos 0 <ℤ orientation e p
 rising_left box e across up least p i =
     let f = mul_nonneg (e.xb -ℤ e.xa) (p.b -ℤ box.y0 *ℤ p.d) (omega (arith, ints)) (omega (arith, ints, i.south)) in
     let g = mul_nonneg (e.yb -ℤ e.ya) (box.x1 *ℤ p.d -ℤ p.a) (omega (arith, ints)) (omega (arith, ints, i.east)) in
@@ -124,7 +124,7 @@ rising_left box e across up least p i =
 
 rising_right : (box : Box) (e : Segment) → e.xa ≤ℤ e.xb → e.ya ≤ℤ e.yb
     → ((e.xb -ℤ e.xa) *ℤ (box.y1 -ℤ e.ya) -ℤ (e.yb -ℤ e.ya) *ℤ (box.x0 -ℤ e.xa)) <ℤ pos 0
-    → (p : Place) → IsIn box p → side e p <ℤ pos 0
+    → (p : Place) → IsIn box p → orientation e p <ℤ pos 0
 rising_right box e across up most p i =
     let f = mul_nonneg (e.xb -ℤ e.xa) (box.y1 *ℤ p.d -ℤ p.b) (omega (arith, ints)) (omega (arith, ints, i.north)) in
     let g = mul_nonneg (e.yb -ℤ e.ya) (p.a -ℤ box.x0 *ℤ p.d) (omega (arith, ints)) (omega (arith, ints, i.west)) in
@@ -159,11 +159,11 @@ rising box e across up outside no_west no_south =
 -- ---- the other directions, by turning an axis
 
 side_turned_x : (e : Segment) (p : Place) →
-    side (record e { xa = neg_ℤ e.xa; xb = neg_ℤ e.xb }) (record p { a = neg_ℤ p.a }) ≡ neg_ℤ (side e p)
+    orientation (record e { xa = neg_ℤ e.xa; xb = neg_ℤ e.xb }) (record p { a = neg_ℤ p.a }) ≡ neg_ℤ (orientation e p)
 side_turned_x e p = simp expand (omega (arith, ints))
 
 side_turned_y : (e : Segment) (p : Place) →
-    side (record e { ya = neg_ℤ e.ya; yb = neg_ℤ e.yb }) (record p { b = neg_ℤ p.b }) ≡ neg_ℤ (side e p)
+    orientation (record e { ya = neg_ℤ e.ya; yb = neg_ℤ e.yb }) (record p { b = neg_ℤ p.b }) ≡ neg_ℤ (orientation e p)
 side_turned_y e p = simp expand (omega (arith, ints))
 
 turned_le : (x y d : ℤ) → (x *ℤ d) ≤ℤ y → neg_ℤ y ≤ℤ (neg_ℤ x *ℤ d)

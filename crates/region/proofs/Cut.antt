@@ -1,5 +1,5 @@
 -- Edges left out whose latitudes don't meet a box's, and numbered edges in order.
-use Rattle.std.proofs.Common.{◌≡◌, inl, inr, ℕ, ◌+◌, ◌<◌, Bool, true, false, not, ◌&&◌, ◌||◌, cond, List, [], ◌∷◌, ◌++◌, map, Some, None, arith, refl, sym, ap, ◌∙◌}
+use Rattle.std.proofs.Common.{◌≡◌, inl, inr, ℕ, ◌+◌, ◌<◌, Bool, true, false, ◌&&◌, ◌||◌, cond, List, [], ◌∷◌, ◌++◌, map, Some, None, arith, refl, sym, ap, ◌∙◌}
 use Rattle.std.proofs.Math.IntN.{ℤ, pos, ◌*ℤ◌}
 use Rattle.std.specs.Prelude.{◌≤ℤ◌, ◌==◌, int_lt}
 use Rattle.std.specs.Option.{option_or}
@@ -7,7 +7,7 @@ use Rattle.std.specs.List.{list_any, filter, flat_map}
 use Rattle.std.proofs.lemmas.Int.{ints}
 use Rattle.std.proofs.lemmas.Bool.Decides.{nat_tests}
 use Rattle.std.proofs.lemmas.List.{map-append}
-use Rattle.region.specs.Plane.{Place, Segment, Box, side, is_on, is_above, crosses}
+use Rattle.region.specs.Plane.{Place, Segment, Box, orientation, is_on, is_above, crosses}
 use Rattle.region.specs.Rings.{Polygon, polygon_edges, is_within, is_in_district, xor}
 use Rattle.region.specs.Named.{edge_point, first_point, corner, named}
 use Rattle.region.specs.Laws.{IsOrdered, misses_latitudes}
@@ -23,7 +23,7 @@ use Rattle.region.proofs.Touching.{no_cross_level}
 
 pub crosses_none : (box : Box) (e : Segment) → IsOrdered box → misses_latitudes box e ≡ true → crosses (corner box) e ≡ false
 crosses_none box e ordered h =
-    no_cross_level (is_above (corner box) e.ya) (is_above (corner box) e.yb) (int_lt (pos 0) (side e (corner box))) (int_lt (side e (corner box)) (pos 0))
+    no_cross_level (is_above (corner box) e.ya) (is_above (corner box) e.yb) (int_lt (pos 0) (orientation e (corner box))) (int_lt (orientation e (corner box)) (pos 0))
     (elim (or_cases (int_lt e.ya box.y0 && int_lt e.yb box.y0) (int_lt box.y1 e.ya && int_lt box.y1 e.yb) h) [
       | inl a ↦
           let u = is_lt e.ya box.y0 (and_left (int_lt e.ya box.y0) (int_lt e.yb box.y0) a) in

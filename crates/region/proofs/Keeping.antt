@@ -7,15 +7,15 @@ use Rattle.std.proofs.lemmas.Bool.{cases_lt}
 use Rattle.region.specs.declared.edges.Edge.{Edge}
 use Rattle.region.specs.Plane.{Segment}
 use Rattle.region.specs.Rings.{Position, Ring, Polygon, edge_between, edges_from, polygon_edges}
-use Rattle.region.specs.Extent.{is_short_from}
+use Rattle.region.specs.Extent.{is_compact_from}
 use Rattle.region.specs.Views.{segment_of}
-use Rattle.region.specs.Strips.{StripView, IsStripOf, AreStripsOf, numbered_edges, reaches, top_of, edges_between, strip_edges, numbered, kept, kept_from}
+use Rattle.region.specs.Strips.{StripView, IsStripOf, AreStripsFrom, numbered_edges, reaches, top_of, strip_edges, numbered, kept, kept_from}
 use Rattle.region.proofs.Along.{short_rest}
 use Rattle.region.proofs.Cut.{filter-append, parts}
 
-pub record KeptAlong (n : ℕ) (low high : ℤ) (before : List Edge) (first : Position) (all : Ring) (now : List Edge) (previous : Position) (left : Ring) : Type 0 where
-  pub short : is_short_from previous left ≡ true
-  pub kept_is : map numbered now ++ kept n low high (edges_from previous left) ≡ map numbered before ++ kept n low high (edges_from first all)
+pub record KeptAlong (n : ℕ) (low : ℤ) (before : List Edge) (first : Position) (all : Ring) (now : List Edge) (previous : Position) (left : Ring) : Type 0 where
+  pub short : is_compact_from previous left ≡ true
+  pub kept_is : map numbered now ++ kept n low (edges_from previous left) ≡ map numbered before ++ kept n low (edges_from first all)
 
 pub kept-append : (n : ℕ) (low high : ℤ) (xs ys : List Segment) → kept n low high (xs ++ ys) ≡ kept n low high xs ++ kept n low high ys
 kept-append n low high xs ys =
@@ -91,9 +91,9 @@ edges_done polygons low high edges n q = sym (append-nil (map numbered edges)) �
 
 -- one more strip
 pub strips_more : (polygons : List Polygon) (south : ℤ) (list : List StripView) (strip : StripView) (i : ℕ)
-    → (length list ≡ i) × AreStripsOf polygons south list
+    → (length list ≡ i) × AreStripsFrom polygons south list
     → strip.low ≡ south +ℤ pos (i * 2 ^ 23) → IsStripOf polygons strip
-    → (length (list ++ strip ∷ []) ≡ i + 1) × AreStripsOf polygons south (list ++ strip ∷ [])
+    → (length (list ++ strip ∷ []) ≡ i + 1) × AreStripsFrom polygons south (list ++ strip ∷ [])
 strips_more polygons south list strip i h low is = (
   omega (arith, h.0, length-append list (strip ∷ [])),
   record {

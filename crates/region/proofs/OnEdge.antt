@@ -6,7 +6,7 @@ use Rattle.std.specs.Ordering.{int_eq}
 use Rattle.std.specs.Option.{option_or}
 use Rattle.std.proofs.lemmas.Int.{ints, by_lt_z}
 use Rattle.region.specs.Magnitude.{IsWithin}
-use Rattle.region.specs.Plane.{Place, Segment, Box, IsIn, side, encloses, is_on}
+use Rattle.region.specs.Plane.{Place, Segment, Box, IsIn, orientation, encloses, is_on}
 use Rattle.region.specs.Named.{progress, passing, at_start, at_longitude, at_latitude, edge_point}
 use Rattle.region.proofs.Products.{expand, mul_nonneg, mul_mul, neg_mul, mul_neg, times_mono}
 use Rattle.region.proofs.Truth.{map_some, or_some, or_cases, le_of_lt, and_true, and_left, and_right, or_left, or_right, some_is, not_false, le_true, is_le, lt_true, lt_false}
@@ -169,7 +169,7 @@ start_met box e p h =
         (λ up. encloses_up (u *ℤ pos 1) (v *ℤ pos 1) u (omega (arith, ints)) (omega (arith, ints)))
         (λ down. encloses_down (u *ℤ pos 1) (v *ℤ pos 1) u (omega (arith, ints)) (omega (arith, ints)))
 
-    at_rest : (e : Segment) → side e (record { a = e.xa; b = e.ya; d = pos 1 }) ≡ pos 0
+    at_rest : (e : Segment) → orientation e (record { a = e.xa; b = e.ya; d = pos 1 }) ≡ pos 0
     at_rest e = simp expand (omega (arith, ints))
 
 longitude_met : (box : Box) (e : Segment) (x : ℤ) (p : Place) → box.x0 ≤ℤ x → x ≤ℤ box.x1

@@ -4,7 +4,7 @@ use Rattle.std.proofs.Common.{◌≡◌, Bool, true, false, not, ◌&&◌, cond,
 use Rattle.std.proofs.Math.IntN.{ℤ, pos, ◌+ℤ◌, ◌-ℤ◌, ◌*ℤ◌, neg_ℤ, *ℤ_comm}
 use Rattle.std.specs.Prelude.{◌≤ℤ◌, ◌<ℤ◌, int_lt}
 use Rattle.std.proofs.lemmas.Int.{ints, by_lt_z}
-use Rattle.region.specs.Plane.{Place, Segment, Box, IsIn, side, is_above, crosses}
+use Rattle.region.specs.Plane.{Place, Segment, Box, IsIn, orientation, is_above, crosses}
 use Rattle.region.specs.Named.{corner}
 use Rattle.region.proofs.Products.{expand, mul_nonneg, factor_pos, negative_factor, times_mono, times_strict, less_of_times, order_of_times}
 use Rattle.region.specs.Rings.{xor}
@@ -27,7 +27,7 @@ by_ends : (xa ya xb yb a b : ℤ) →
     (xb -ℤ xa) *ℤ (b -ℤ ya) -ℤ (yb -ℤ ya) *ℤ (a -ℤ xa) ≡ (xb -ℤ a) *ℤ (b -ℤ ya) +ℤ (xa -ℤ a) *ℤ (yb -ℤ b)
 by_ends xa ya xb yb a b = simp expand (omega (arith, ints))
 
-scaled_side : (e : Segment) (p : Place) → p.d *ℤ side e p
+scaled_side : (e : Segment) (p : Place) → p.d *ℤ orientation e p
     ≡ (e.xb *ℤ p.d -ℤ p.a) *ℤ (p.b -ℤ e.ya *ℤ p.d) +ℤ (e.xa *ℤ p.d -ℤ p.a) *ℤ (e.yb *ℤ p.d -ℤ p.b)
 scaled_side e p =
     times_side e.xa e.ya e.xb e.yb (p.b -ℤ e.ya *ℤ p.d) (p.a -ℤ e.xa *ℤ p.d) p.d
@@ -36,17 +36,17 @@ scaled_side e p =
 
 positive_side : (e : Segment) (p : Place) → pos 0 <ℤ p.d
     → pos 0 <ℤ ((e.xb *ℤ p.d -ℤ p.a) *ℤ (p.b -ℤ e.ya *ℤ p.d) +ℤ (e.xa *ℤ p.d -ℤ p.a) *ℤ (e.yb *ℤ p.d -ℤ p.b))
-    → pos 0 <ℤ side e p
+    → pos 0 <ℤ orientation e p
 positive_side e p d h =
     let k = rw (← scaled_side e p) at h in
-    factor_pos p.d (side e p) (omega (arith, ints)) k
+    factor_pos p.d (orientation e p) (omega (arith, ints)) k
 
 negative_side : (e : Segment) (p : Place) → pos 0 <ℤ p.d
     → ((e.xb *ℤ p.d -ℤ p.a) *ℤ (p.b -ℤ e.ya *ℤ p.d) +ℤ (e.xa *ℤ p.d -ℤ p.a) *ℤ (e.yb *ℤ p.d -ℤ p.b)) <ℤ pos 0
-    → side e p <ℤ pos 0
+    → orientation e p <ℤ pos 0
 negative_side e p d h =
     let k = rw (← scaled_side e p) at h in
-    negative_factor p.d (side e p) d k
+    negative_factor p.d (orientation e p) d k
 
 -- the sign of such a sum where both ends are on one side of the place
 mixed_pos : (u v s t : ℤ) → pos 0 <ℤ u → pos 0 <ℤ v → pos 0 ≤ℤ s → pos 0 ≤ℤ t → pos 0 <ℤ (s +ℤ t)
@@ -87,28 +87,28 @@ abbrev Falls : Place → Segment → Type 0
 Falls p e = ((e.yb *ℤ p.d) ≤ℤ p.b) × (p.b <ℤ (e.ya *ℤ p.d))
 
 rises_east : (e : Segment) (p : Place) → pos 0 <ℤ p.d → p.a <ℤ (e.xa *ℤ p.d) → p.a <ℤ (e.xb *ℤ p.d)
-    → Rises p e → pos 0 <ℤ side e p
+    → Rises p e → pos 0 <ℤ orientation e p
 rises_east e p d h k (from, to) =
     positive_side e p d
     (mixed_pos (e.xb *ℤ p.d -ℤ p.a) (e.xa *ℤ p.d -ℤ p.a) (p.b -ℤ e.ya *ℤ p.d) (e.yb *ℤ p.d -ℤ p.b)
     (omega (arith, ints)) (omega (arith, ints)) (omega (arith, ints)) (omega (arith, ints)) (omega (arith, ints)))
 
 falls_east : (e : Segment) (p : Place) → pos 0 <ℤ p.d → p.a <ℤ (e.xa *ℤ p.d) → p.a <ℤ (e.xb *ℤ p.d)
-    → Falls p e → side e p <ℤ pos 0
+    → Falls p e → orientation e p <ℤ pos 0
 falls_east e p d h k (to, from) =
     negative_side e p d
     (mixed_neg (e.xb *ℤ p.d -ℤ p.a) (e.xa *ℤ p.d -ℤ p.a) (p.b -ℤ e.ya *ℤ p.d) (e.yb *ℤ p.d -ℤ p.b)
     (omega (arith, ints)) (omega (arith, ints)) (omega (arith, ints)) (omega (arith, ints)) (omega (arith, ints)))
 
 rises_west : (e : Segment) (p : Place) → pos 0 <ℤ p.d → (e.xa *ℤ p.d) <ℤ p.a → (e.xb *ℤ p.d) <ℤ p.a
-    → Rises p e → side e p <ℤ pos 0
+    → Rises p e → orientation e p <ℤ pos 0
 rises_west e p d h k (from, to) =
     negative_side e p d
     (turned_neg (e.xb *ℤ p.d -ℤ p.a) (e.xa *ℤ p.d -ℤ p.a) (p.b -ℤ e.ya *ℤ p.d) (e.yb *ℤ p.d -ℤ p.b)
     (omega (arith, ints)) (omega (arith, ints)) (omega (arith, ints)) (omega (arith, ints)) (omega (arith, ints)))
 
 falls_west : (e : Segment) (p : Place) → pos 0 <ℤ p.d → (e.xa *ℤ p.d) <ℤ p.a → (e.xb *ℤ p.d) <ℤ p.a
-    → Falls p e → pos 0 <ℤ side e p
+    → Falls p e → pos 0 <ℤ orientation e p
 falls_west e p d h k (to, from) =
     positive_side e p d
     (turned_pos (e.xb *ℤ p.d -ℤ p.a) (e.xa *ℤ p.d -ℤ p.a) (p.b -ℤ e.ya *ℤ p.d) (e.yb *ℤ p.d -ℤ p.b)
@@ -145,7 +145,7 @@ cross_east e p d h k =
 
 -- ---- an edge with the whole box on one side of its line
 
-left_crosses : (e : Segment) (p : Place) → pos 0 <ℤ side e p → crosses p e ≡ (is_above p e.yb && not (is_above p e.ya))
+left_crosses : (e : Segment) (p : Place) → pos 0 <ℤ orientation e p → crosses p e ≡ (is_above p e.yb && not (is_above p e.ya))
 left_crosses e p h = rows _ _ _ _ (lt_true _ _ h) (lt_false _ _ (le_of_lt _ _ h))
   where
     rows : (from to left right : Bool) → left ≡ true → right ≡ false
@@ -155,7 +155,7 @@ left_crosses e p h = rows _ _ _ _ (lt_true _ _ h) (lt_false _ _ (le_of_lt _ _ h)
     rows true false left right f g = g
     rows false false left right f g = refl
 
-right_crosses : (e : Segment) (p : Place) → side e p <ℤ pos 0 → crosses p e ≡ (is_above p e.ya && not (is_above p e.yb))
+right_crosses : (e : Segment) (p : Place) → orientation e p <ℤ pos 0 → crosses p e ≡ (is_above p e.ya && not (is_above p e.yb))
 right_crosses e p h = rows _ _ _ _ (lt_false _ _ (le_of_lt _ _ h)) (lt_true _ _ h)
   where
     rows : (from to left right : Bool) → left ≡ false → right ≡ true
@@ -198,11 +198,11 @@ between_in box p y i h =
     }
 
 start_side : (e : Segment) (x : ℤ) →
-    side e (record { a = x; b = e.ya; d = pos 1 }) ≡ (e.yb -ℤ e.ya) *ℤ (e.xa -ℤ x)
+    orientation e (record { a = x; b = e.ya; d = pos 1 }) ≡ (e.yb -ℤ e.ya) *ℤ (e.xa -ℤ x)
 start_side e x = simp expand (omega (arith, ints))
 
 end_side : (e : Segment) (x : ℤ) →
-    side e (record { a = x; b = e.yb; d = pos 1 }) ≡ (e.yb -ℤ e.ya) *ℤ (e.xb -ℤ x)
+    orientation e (record { a = x; b = e.yb; d = pos 1 }) ≡ (e.yb -ℤ e.ya) *ℤ (e.xb -ℤ x)
 end_side e x = simp expand (omega (arith, ints))
 
 -- the signs of two factors of a product above 0 agree
@@ -327,7 +327,7 @@ turns false s0 s1 e0 e1 s e h k =
     (k refl))
 
 alike_left : (box : Box) (p : Place) (e : Segment) → IsIn box p
-    → ((q : Place) → IsIn box q → pos 0 <ℤ side e q) → Alike box p e
+    → ((q : Place) → IsIn box q → pos 0 <ℤ orientation e q) → Alike box p e
 alike_left box p e i left =
     let c = corner_in box p i in
     let from = and_same (int_lt box.x0 e.xa) (int_lt e.ya e.yb) (is_above (corner box) e.ya && not (is_above p e.ya))
@@ -345,7 +345,7 @@ alike_left box p e i left =
     and_true _ _ (above_more p e.yb e.ya i.positive h) (above_more (corner box) e.yb e.ya c.positive h)))
 
 alike_right : (box : Box) (p : Place) (e : Segment) → IsIn box p
-    → ((q : Place) → IsIn box q → side e q <ℤ pos 0) → Alike box p e
+    → ((q : Place) → IsIn box q → orientation e q <ℤ pos 0) → Alike box p e
 alike_right box p e i right =
     let c = corner_in box p i in
     let from = and_same (int_lt box.x0 e.xa) (int_lt e.yb e.ya) (is_above (corner box) e.ya && not (is_above p e.ya))

@@ -10,7 +10,7 @@ use Rattle.std.proofs.lemmas.List.{map-append}
 use Rattle.std.proofs.lemmas.List.Folds.{list_any-append}
 use Rattle.region.specs.declared.bounds.Bounds.{Bounds}
 use Rattle.region.specs.Rings.{Position, Ring, Polygon}
-use Rattle.region.specs.Extent.{is_far, is_short, is_short_from, positions_of, longitudes, latitudes, least, greatest, is_wide}
+use Rattle.region.specs.Extent.{is_far, is_compact, is_compact_from, positions_of, longitudes, latitudes, least, greatest, is_wide}
 use Rattle.region.specs.Bounds.{widened, or_zero}
 use Rattle.region.proofs.Truth.{and_true, is_ge, neither}
 use Rattle.region.proofs.Sound.{IsSound}
@@ -114,7 +114,7 @@ not_far true b h = cc
 not_far false b h = (refl, h)
 
 ring_short_from : (w e s n : ℤ) (p : Position) (rest : Ring) → (e -ℤ w) ≤ℤ pos 4_194_304 → (n -ℤ s) ≤ℤ pos 4_194_304
-    → IsCompact w e s n (p ∷ rest) → is_short_from p rest ≡ true
+    → IsCompact w e s n (p ∷ rest) → is_compact_from p rest ≡ true
 ring_short_from w e s n p [] g h c = (not_far (is_far p) (list_any is_far []) c.near).0
 ring_short_from w e s n p (q ∷ rest) g h c =
     let x = c.x_in in
@@ -126,25 +126,25 @@ ring_short_from w e s n p (q ∷ rest) g h c =
     (ring_short_from w e s n q rest g h (record { near = here.1; x_in = x.2; y_in = y.2 })))
 
 ring_short : (w e s n : ℤ) (ring : Ring) → (e -ℤ w) ≤ℤ pos 4_194_304 → (n -ℤ s) ≤ℤ pos 4_194_304
-    → IsCompact w e s n ring → is_short ring ≡ true
+    → IsCompact w e s n ring → is_compact ring ≡ true
 ring_short w e s n [] g h c = refl
 ring_short w e s n (p ∷ rest) g h c = ring_short_from w e s n p rest g h c
 
 rings_short : (w e s n : ℤ) (rings : Polygon) → (e -ℤ w) ≤ℤ pos 4_194_304 → (n -ℤ s) ≤ℤ pos 4_194_304
-    → IsCompact w e s n (flat_map (λ ring. ring) rings) → list_all is_short rings ≡ true
+    → IsCompact w e s n (flat_map (λ ring. ring) rings) → list_all is_compact rings ≡ true
 rings_short w e s n [] g h c = refl
 rings_short w e s n (ring ∷ rest) g h c =
     and_true _ _ (ring_short w e s n ring g h (compact_left w e s n ring (flat_map (λ ring. ring) rest) c))
     (rings_short w e s n rest g h (compact_right w e s n ring (flat_map (λ ring. ring) rest) c))
 
 polygons_short : (w e s n : ℤ) (polygons : List Polygon) → (e -ℤ w) ≤ℤ pos 4_194_304 → (n -ℤ s) ≤ℤ pos 4_194_304
-    → IsCompact w e s n (positions_of polygons) → list_all (list_all is_short) polygons ≡ true
+    → IsCompact w e s n (positions_of polygons) → list_all (list_all is_compact) polygons ≡ true
 polygons_short w e s n [] g h c = refl
 polygons_short w e s n (rings ∷ rest) g h c =
     and_true _ _ (rings_short w e s n rings g h (compact_left w e s n (flat_map (λ ring. ring) rings) (positions_of rest) c))
     (polygons_short w e s n rest g h (compact_right w e s n (flat_map (λ ring. ring) rings) (positions_of rest) c))
 
-pub all_short : (polygons : List Polygon) → IsSound polygons → list_all (list_all is_short) polygons ≡ true
+pub all_short : (polygons : List Polygon) → IsSound polygons → list_all (list_all is_compact) polygons ≡ true
 all_short polygons s =
     let k = neither (is_wide (longitudes polygons)) (is_wide (latitudes polygons)) s.narrow in
     polygons_short (least (longitudes polygons)) (greatest (longitudes polygons)) (least (latitudes polygons)) (greatest (latitudes polygons))

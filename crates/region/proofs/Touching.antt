@@ -5,7 +5,7 @@ use Rattle.std.specs.Prelude.{◌<ℤ◌, int_lt}
 use Rattle.std.specs.Ordering.{int_eq}
 use Rattle.std.proofs.lemmas.Int.{ints}
 use mathlib.Core.Bool.{beq}
-use Rattle.region.specs.Plane.{Place, Segment, side, encloses, is_on, is_above, crosses}
+use Rattle.region.specs.Plane.{Place, Segment, orientation, encloses, is_on, is_above, crosses}
 use Rattle.region.specs.Rings.{xor}
 use Rattle.region.proofs.Truth.{and_left, and_right, is_lt}
 use Rattle.region.proofs.Parity.{no_cross_west, cross_east}
@@ -27,7 +27,7 @@ no_cross_level false false left right h = refl
 pub cross_beyond_latitudes : (e : Segment) (p : Place) → encloses (e.ya *ℤ p.d) (e.yb *ℤ p.d) p.b ≡ false
     → crosses p e ≡ false
 cross_beyond_latitudes e p h =
-    no_cross_level (is_above p e.ya) (is_above p e.yb) (int_lt (pos 0) (side e p)) (int_lt (side e p) (pos 0))
+    no_cross_level (is_above p e.ya) (is_above p e.yb) (int_lt (pos 0) (orientation e p)) (int_lt (orientation e p) (pos 0))
     (alike_beyond (e.ya *ℤ p.d) (e.yb *ℤ p.d) p.b h)
 
 -- a place to the east of the edge
@@ -76,5 +76,5 @@ true_and false b c h k = cc
 pub on_in_box : (e : Segment) (p : Place) → encloses (e.ya *ℤ p.d) (e.yb *ℤ p.d) p.b ≡ true
     → (int_lt (e.xa *ℤ p.d) p.a && int_lt (e.xb *ℤ p.d) p.a) ≡ false
     → (int_lt p.a (e.xa *ℤ p.d) && int_lt p.a (e.xb *ℤ p.d)) ≡ false
-    → is_on p e ≡ int_eq (side e p) (pos 0)
+    → is_on p e ≡ int_eq (orientation e p) (pos 0)
 on_in_box e p y w x = true_and _ _ _ (in_longitudes (e.xa *ℤ p.d) (e.xb *ℤ p.d) p.a w x) y

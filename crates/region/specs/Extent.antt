@@ -39,10 +39,10 @@ is_step p q =
     nat_le (unsigned_abs (q.0 -ℤ p.0)) 4_194_304 && nat_le (unsigned_abs (q.1 -ℤ p.1)) 4_194_304
 
 -- each position is near and each step is within the extent
-abbrev pub is_short_from : Position → Ring → Bool
-is_short_from p [] = not (is_far p)
-is_short_from p (q ∷ rest) = not (is_far p) && (is_step p q && is_short_from q rest)
+abbrev pub is_compact_from : Position → Ring → Bool
+is_compact_from p [] = not (is_far p)
+is_compact_from p (q ∷ rest) = not (is_far p) && (is_step p q && is_compact_from q rest)
 
-abbrev pub is_short : Ring → Bool
-is_short [] = true
-is_short (p ∷ rest) = is_short_from p rest
+abbrev pub is_compact : Ring → Bool
+is_compact [] = true
+is_compact (p ∷ rest) = is_compact_from p rest

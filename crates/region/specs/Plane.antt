@@ -36,15 +36,15 @@ abbrev pub encloses : ℤ → ℤ → ℤ → Bool
 encloses u v z = (int_le u z && int_le z v) || (int_le v z && int_le z u)
 
 -- above 0 where the place is on the edge's left, below 0 on its right, and 0 on its line
-abbrev pub side : Segment → Place → ℤ
-side e p =
+abbrev pub orientation : Segment → Place → ℤ
+orientation e p =
     (e.xb -ℤ e.xa) *ℤ (p.b -ℤ e.ya *ℤ p.d) -ℤ (e.yb -ℤ e.ya) *ℤ (p.a -ℤ e.xa *ℤ p.d)
 
 -- the place lies on the edge, its ends included
 abbrev pub is_on : Place → Segment → Bool
 is_on p e =
     encloses (e.xa *ℤ p.d) (e.xb *ℤ p.d) p.a
-    && (encloses (e.ya *ℤ p.d) (e.yb *ℤ p.d) p.b && int_eq (side e p) (pos 0))
+    && (encloses (e.ya *ℤ p.d) (e.yb *ℤ p.d) p.b && int_eq (orientation e p) (pos 0))
 
 -- the latitude y is greater than the place's
 abbrev pub is_above : Place → ℤ → Bool
@@ -55,5 +55,5 @@ is_above p y = int_lt p.b (y *ℤ p.d)
 abbrev pub crosses : Place → Segment → Bool
 crosses p e =
     if is_above p e.yb
-    then not (is_above p e.ya) && int_lt (pos 0) (side e p)
-    else is_above p e.ya && int_lt (side e p) (pos 0)
+    then not (is_above p e.ya) && int_lt (pos 0) (orientation e p)
+    else is_above p e.ya && int_lt (orientation e p) (pos 0)

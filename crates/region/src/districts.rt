@@ -7,7 +7,7 @@ ghost use Rattle.region.specs.Strips.{AreStripsOf, IsBandOf};
 ghost use Rattle.region.specs.Plane.{Place, IsIn};
 ghost use Rattle.region.specs.Rings.{is_in_district};
 ghost use Rattle.region.specs.Named.{named};
-ghost use Rattle.region.specs.Extent.{longitudes, latitudes, positions_of, least, greatest, is_short};
+ghost use Rattle.region.specs.Extent.{longitudes, latitudes, positions_of, least, greatest, is_compact};
 ghost use Rattle.region.specs.Faults.{first_fault, IsSurveyed};
 ghost use Rattle.region.specs.Vectors.{rings_in, polygons_in};
 ghost use Rattle.region.specs.Views.{place_of, box_of};
@@ -50,7 +50,7 @@ impl Model for District {
 
 // The rings, each with its one list of positions.
 fn ring_list(alloc: Global, rings: Vec<Vec<(i64, i64)>>) -> Result<Vec<Ring>, AllocError>
-    requires { IsTrue (list_all is_short (rings_in rings.items)) }
+    requires { IsTrue (list_all is_compact (rings_in rings.items)) }
     ensures { IfOk result (λ list. list.items ≡ rings_in rings.items) }
 {
     let mut list = Vec::new(alloc);
@@ -64,7 +64,7 @@ fn polygon_list(
     alloc: Global,
     polygons: Vec<Vec<Vec<(i64, i64)>>>,
 ) -> Result<Vec<Polygon>, AllocError>
-    requires { IsTrue (list_all (list_all is_short) (polygons_in polygons.items)) }
+    requires { IsTrue (list_all (list_all is_compact) (polygons_in polygons.items)) }
     ensures { IfOk result (λ list. list.items ≡ polygons_in polygons.items) }
 {
     let mut list = Vec::new(alloc);

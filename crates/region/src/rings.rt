@@ -6,7 +6,7 @@ ghost use Rattle.std.specs.Option.{option_map};
 ghost use Rattle.region.specs.Plane.{is_on, crosses};
 ghost use Rattle.region.specs.Rings.{edge_between, edges_from, ring_edges, is_odd};
 ghost use Rattle.region.specs.Named.{first_point};
-ghost use Rattle.region.specs.Extent.{is_far, is_step, is_short, is_short_from};
+ghost use Rattle.region.specs.Extent.{is_far, is_step, is_compact, is_compact_from};
 ghost use Rattle.region.specs.Views.{place_of, box_of, segment_of};
 
 use crate::edge_points::edge_point;
@@ -29,7 +29,7 @@ impl Model for Ring {
 
     ghost view = { λ a. a.positions.items };
 
-    ghost invariant = { λ a. IsTrue (is_short a.positions.items) };
+    ghost invariant = { λ a. IsTrue (is_compact a.positions.items) };
 }
 
 // The edge between two positions, in place units.
@@ -50,7 +50,7 @@ fn edge_between(p: (i64, i64), q: (i64, i64), polygon: u32) -> Edge
 }
 
 fn touch_along(first: (i64, i64), rest: &[(i64, i64)], p: &Point) -> Touch
-    requires { IsTrue (is_short_from first rest.now) }
+    requires { IsTrue (is_compact_from first rest.now) }
     ensures on { result.on ≡ list_any (is_on (place_of p.now)) (edges_from first rest.now) }
     ensures odd { result.odd ≡ is_odd (count_by (crosses (place_of p.now)) (edges_from first rest.now)) }
 {
@@ -67,7 +67,7 @@ fn touch_along(first: (i64, i64), rest: &[(i64, i64)], p: &Point) -> Touch
 }
 
 fn point_along(first: (i64, i64), rest: &[(i64, i64)], r: &Rect) -> Option<Point>
-    requires { IsTrue (is_short_from first rest.now) }
+    requires { IsTrue (is_compact_from first rest.now) }
     ensures { option_map place_of result ≡ first_point (box_of r.now) (edges_from first rest.now) }
 {
     let mut previous = first;
@@ -88,7 +88,8 @@ fn keep_along(
     low: i64,
     high: i64,
 ) -> Result<(), AllocError>
-    requires { IsTrue (is_short_from first rest.now) }
+    requires short { IsTrue (is_compact_from first rest.now) }
+    requires low { IsWithin (pos 47_000_000_000) low }
     ensures { OnOk result (map numbered edges.new.items
         ≡ map numbered edges.old.items ++ kept polygon low high (edges_from first rest.now)) }
 {
@@ -102,7 +103,7 @@ fn keep_along(
 
 impl Ring {
     pub(crate) fn new(positions: Vec<(i64, i64)>) -> Ring
-        requires { IsTrue (is_short positions.items) }
+        requires { IsTrue (is_compact positions.items) }
         ensures { result ≡ positions.items }
     {
         Ring { positions }

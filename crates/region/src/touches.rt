@@ -1,7 +1,7 @@
 // How an edge, and a ring, stand to a place: the place on it, and whether a ray to the east crosses it.
 ghost use Rattle.std.specs.Prelude.{◌≡◌, pos, ◌*ℤ◌, ◌&&◌, ◌||◌, not, int_lt, if◌then◌else◌};
 ghost use Rattle.std.specs.Ordering.{int_eq};
-ghost use Rattle.region.specs.Plane.{side, is_on, is_above, crosses, encloses};
+ghost use Rattle.region.specs.Plane.{orientation, is_on, is_above, crosses, encloses};
 ghost use Rattle.region.specs.Rings.{xor};
 ghost use Rattle.region.specs.Views.{place_of, segment_of};
 
@@ -37,8 +37,8 @@ fn encloses(u: i128, v: i128, z: i128) -> bool
 }
 
 // Above 0 where the place is on the edge's left, below 0 on its right.
-fn side(edge: &Edge, p: &Point) -> i128
-    ensures { result ≡ side (segment_of edge.now) (place_of p.now) }
+fn orientation(edge: &Edge, p: &Point) -> i128
+    ensures { result ≡ orientation (segment_of edge.now) (place_of p.now) }
 {
     let rise = area(span(edge.xa, edge.xb), gap(scaled(edge.ya, p.d), p.b));
     let run = area(span(edge.ya, edge.yb), gap(scaled(edge.xa, p.d), p.a));
@@ -88,15 +88,15 @@ fn is_zero(z: i128) -> bool
 
 // A ray to the east crosses an edge that goes from one side of the place's latitude to the other, the
 // place on its left or right.
-fn is_crossed(from_above: bool, to_above: bool, side: i128) -> bool
+fn is_crossed(from_above: bool, to_above: bool, turn: i128) -> bool
     ensures { result ≡ (if to_above
-        then (not from_above && int_lt (pos 0) side)
-        else (from_above && int_lt side (pos 0))) }
+        then (not from_above && int_lt (pos 0) turn)
+        else (from_above && int_lt turn (pos 0))) }
 {
     if to_above {
-        !from_above && side > 0
+        !from_above && turn > 0
     } else {
-        from_above && side < 0
+        from_above && turn < 0
     }
 }
 
@@ -126,9 +126,9 @@ pub(crate) fn edge_touch(edge: &Edge, p: &Point) -> Touch
             odd: from_above != to_above,
         };
     }
-    let side = side(edge, p);
+    let turn = orientation(edge, p);
     Touch {
-        on: is_zero(side),
-        odd: is_crossed(from_above, to_above, side),
+        on: is_zero(turn),
+        odd: is_crossed(from_above, to_above, turn),
     }
 }

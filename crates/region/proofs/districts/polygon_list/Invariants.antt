@@ -1,9 +1,9 @@
 use Rattle.std.proofs.Common.{◌≡◌, true}
 use Rattle.std.specs.List.{list_all}
-use Rattle.region.specs.Extent.{is_short}
+use Rattle.region.specs.Extent.{is_compact}
 use Rattle.region.specs.Vectors.{polygons_in}
 use Rattle.region.proofs.districts.polygon_list.Given as goal
 
 abbrev pub invariant-loop-rings : goal.invariant-loop-rings
 invariant-loop-rings l =
-    (l.list.items ≡ polygons_in l.yielded) × (list_all (list_all is_short) (polygons_in l.rings-iterator.rest.items) ≡ true)
+    (l.list.items ≡ polygons_in l.yielded) × (list_all (list_all is_compact) (polygons_in l.rings-iterator.rest.items) ≡ true)

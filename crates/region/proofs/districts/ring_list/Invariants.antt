@@ -1,9 +1,9 @@
 use Rattle.std.proofs.Common.{◌≡◌, true}
 use Rattle.std.specs.List.{list_all}
-use Rattle.region.specs.Extent.{is_short}
+use Rattle.region.specs.Extent.{is_compact}
 use Rattle.region.specs.Vectors.{rings_in}
 use Rattle.region.proofs.districts.ring_list.Given as goal
 
 abbrev pub invariant-loop-ring : goal.invariant-loop-ring
 invariant-loop-ring l =
-    (l.list.items ≡ rings_in l.yielded) × (list_all is_short (rings_in l.ring-iterator.rest.items) ≡ true)
+    (l.list.items ≡ rings_in l.yielded) × (list_all is_compact (rings_in l.ring-iterator.rest.items) ≡ true)

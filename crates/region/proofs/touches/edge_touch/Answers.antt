@@ -1,4 +1,4 @@
-use Rattle.std.proofs.Common.{arith, pos, FitsSigned, rules, true, refl, sym, ◌∙◌}
+use Rattle.std.proofs.Common.{arith, pos, FitsSigned, rules, refl, sym, ◌∙◌}
 use Rattle.std.specs.Prelude.{◌<ℤ◌}
 use Rattle.std.specs.Int.{w128}
 use Rattle.std.proofs.lemmas.Int.{ints, to_z-of_z}
@@ -36,14 +36,14 @@ returns-then-lies_east-clause-odd c =
 
 pub returns-clause-on : goal.returns-clause-on
 returns-clause-on c =
-    let f : FitsSigned w128 c.side-side.result = search rules in
-    let side = c.side-side.ensures in
+    let f : FitsSigned w128 c.orientation-turn.result = search rules in
+    let orientation = c.orientation-turn.ensures in
     let here = simp to_z-of_z at c.is_zero.ensures in
-    here ∙ rw side (sym (on_in_box (segment_of c.args.edge.now) (place_of c.args.p.now)
+    here ∙ rw orientation (sym (on_in_box (segment_of c.args.edge.now) (place_of c.args.p.now)
     (not_true _ (sym c.if-misses_latitude.ensures)) (sym c.if-lies_west.ensures) (sym c.if-lies_east.ensures)))
 
 pub returns-clause-odd : goal.returns-clause-odd
 returns-clause-odd c =
-    let f : FitsSigned w128 c.side-side.result = search rules in
+    let f : FitsSigned w128 c.orientation-turn.result = search rules in
     let here = simp to_z-of_z at c.is_crossed.ensures in
-    here ∙ rw (c.starts_above-from_above.ensures, c.ends_above-to_above.ensures, c.side-side.ensures) refl
+    here ∙ rw (c.starts_above-from_above.ensures, c.ends_above-to_above.ensures, c.orientation-turn.ensures) refl

@@ -1,7 +1,7 @@
 use Rattle.std.proofs.Common.{rules, FitsSigned, refl, ◌∙◌}
 use Rattle.std.specs.Int.{w64, w128}
 use Rattle.std.proofs.lemmas.Int.{to_z-of_z}
-use Rattle.region.proofs.touches.side.Goals as goal
+use Rattle.region.proofs.touches.orientation.Goals as goal
 
 pub returns : goal.returns
 returns c =
