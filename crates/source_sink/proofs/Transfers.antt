@@ -1,6 +1,6 @@
 -- Calls in a row on a source or a sink.
 use Rattle.std.proofs.Common.{◌≡◌, ℕ, ◌+◌, ◌-◌, ◌≤◌, ◌<◌, List, [], ◌++◌, length, take, drop, Option, Some, refl, sym, ◌∙◌, ap, append_assoc, arith, length-drop, length-append}
-use Rattle.std.proofs.lemmas.List.{append-nil, take-append-drop, take-take, drop-take, drop-drop, take_rest}
+use Rattle.std.proofs.lemmas.List.{append-nil, length-take, take-append-drop, take-take, drop-take, drop-drop, take_rest}
 use Rattle.source_sink.specs.Outside.{Adds, Gives, IsUsedUp}
 use Rattle.source_sink.specs.Reading.{GivesAll, IsLonger}
 
@@ -67,3 +67,11 @@ pub gives_longer : (a b : Option (List ℕ)) (x : List ℕ) (limit : ℕ) → Gi
 gives_longer a b x limit first over left told =
     let (rest, was_rest, is_left) = first left told in
     omega (arith, ap length is_left, length-append x rest)
+
+-- one piece more than found so far
+pub piece_within : (limit count : ℕ) (found buffer : List ℕ) → length found ≤ limit → length buffer ≤ 65_536 →
+    length (found ++ take count buffer) ≤ limit + 65_536
+piece_within limit count found buffer few short =
+    let all = length-append found (take count buffer) in
+    let front = length-take count buffer in
+    omega (arith, all, front, few, short)

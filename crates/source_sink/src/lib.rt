@@ -13,6 +13,3 @@ pub use reading::{Got, ReadFault, Source, read_all};
 pub use standard::{StdSink, StdSource};
 pub use sure::{SureSink, SureSource};
 pub use writing::{Put, Sink, WriteFault, write_all};
-
-#[cfg(test)]
-mod tests;

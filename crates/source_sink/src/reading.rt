@@ -1,7 +1,7 @@
 // What bytes come from, one call at a time and whole.
 ghost use Rattle.std.specs.Prelude.{◌≡◌, ℕ, ◌<◌, ◌≤◌, List, Option, length, IfOk, IsErrOf};
 ghost use Rattle.source_sink.specs.Outside.{Rose};
-ghost use Rattle.source_sink.specs.Reading.{Reads, GivesSome, GivesAll, IsLonger};
+ghost use Rattle.source_sink.specs.Reading.{Reads, GivesWithin, GivesAll, IsLonger};
 ghost use Rattle.source_sink.specs.declared.reading.ReadFault.TheVariants.{NoMemory};
 
 use std::alloc::{AllocError, Global};
@@ -55,14 +55,14 @@ impl From<AllocError> for ReadFault {
 const PIECE: usize = 65_536;
 
 /// All bytes that the source has left, at most `limit`. It reads until the end, until a read fails, or until it
-/// has more bytes than the limit.
+/// has more bytes than the limit, of which it then took at most one piece more.
 pub fn read_all<S: Source>(
     alloc: Global,
     source: &mut S,
     limit: usize,
 ) -> Result<Vec<u8>, ReadFault>
     ensures later { S.faults source.old ≤ S.faults source.new }
-    ensures some { GivesSome (S.left source.old) (S.left source.new) }
+    ensures some { GivesWithin limit (S.left source.old) (S.left source.new) }
     ensures whole { IfOk result (λ bytes.
         GivesAll (S.left source.old) (S.left source.new) bytes.items) }
     ensures within { IfOk result (λ bytes. length bytes.items ≤ limit) }

@@ -1,4 +1,8 @@
-use super::*;
+// Sources and sinks: calls that fail by a plan, and std's readers and writers.
+use source_sink::{
+    Got, MemSink, MemSource, Put, ReadFault, Sink, Source, StdSink, StdSource, SureSink,
+    SureSource, WriteFault, read_all, write_all,
+};
 use std::io;
 use std::io::{ErrorKind, Read, Write};
 use std::test::Fail;
