@@ -18,6 +18,11 @@ abbrev pub line_of_ending : Ending → List ℕ
 line_of_ending (Plain status) = line_of_status status
 line_of_ending (Refused status line) = string_bytes line
 
+-- the input is refused with this status and this line, or memory for the line was not found
+abbrev pub IsRefusedBy : Status → List ℕ → Ending → Type 0
+IsRefusedBy status line (Plain other) = other ≡ NoMemory
+IsRefusedBy status line (Refused other text) = (other ≡ status) × (string_bytes text ≡ line)
+
 -- the run ends by this answer: its status and its line, and what came to the output
 pub record EndsBy (a : Answer) (ending : Ending) (source source' out out' : Stream) : Type 0 where
   pub ends : EndsAs a (status_of_ending ending) source source' out out'

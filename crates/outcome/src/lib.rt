@@ -5,7 +5,9 @@
 mod ending;
 mod status;
 mod stop;
+mod text;
 
 pub use ending::{Ending, ending_of};
 pub use status::Status;
 pub use stop::Stop;
+pub use text::write_text;

@@ -1,192 +1,209 @@
--- What the words and the input say of the answer's status and text.
-use Rattle.std.proofs.Common.{◌≡◌, ℕ, List, [], Bool, true, false, cond, Option, Some, None, IsSome, Ok, Err, ◌⊎◌, inl, inr, refl, ap, sym, ◌∙◌, arith, take, zero, suc, length}
-use Rattle.std.specs.Prelude.{◌==◌, ◌≢◌, IsTrue}
-use Rattle.source_sink.specs.Outside.{Rose, Adds}
-use Rattle.timetable.specs.Answer.{Answer, answer_to, reads_input, order_answer, table_answer, sun_answer, sun_answer_to, status_of, usage_answer, Command, none, sun, order, plain}
-use Rattle.timetable.specs.Input.{Input, unread, too_long, read}
-use Rattle.timetable.specs.Laws.{IsRightCommand, IsOrder, IsNoOrder}
-use Rattle.timetable.specs.Request.{request_in}
-use Rattle.timetable.specs.Streams.{EndsAs}
-use Rattle.timetable.specs.Table.{undecided}
-use Rattle.timetable.specs.Verdict.{verdict_of}
-use Rattle.timetable.specs.declared.ending.Status.{Status}
-use Rattle.timetable.specs.declared.ending.Status.TheVariants.{Done, Usage, OrderRefused, ReadFault, WriteFault, NoMemory, CoverRefused}
-use Rattle.timetable.specs.declared.ending.Status.TheVariants.{Open as StatusOpen}
-use Rattle.timetable.specs.declared.request.Request.{Request}
-use Rattle.timetable.specs.declared.verdict.Verdict.{Verdict}
-use Rattle.timetable.specs.declared.verdict.Verdict.TheVariants.{Above, Below, Open}
+-- What the words and the input say of a run's ending.
+use Rattle.std.proofs.Common.{◌≡◌, ℕ, List, [], Bool, true, false, cond, ◌⊎◌, inl, inr, Option, Some, Ok, Err, refl, sym, ◌∙◌, subst}
+use Rattle.std.specs.Prelude.{◌≢◌, ◌==◌}
+use Rattle.command_input.proofs.InputLemmas.{inputs_agree}
+use Rattle.command_input.specs.Answers.{IsTooLong, Leaves}
+use Rattle.command_input.specs.Input.{Input, IsSpelled, Wanted, an_order, nothing, order, read, too_long, unread}
+use Rattle.order_reader.specs.Asked.{Asked}
+use Rattle.order_reader.proofs.RuleKept.{orders_keep_the_rule}
+use Rattle.timetable.proofs.DayLemmas.{kept_by_rule, right_table}
+use Rattle.outcome.proofs.EndsLemmas.{done_none, done_or_open, no_part, none_added, open_some, IsWhole, Ways, ways}
+use Rattle.outcome.specs.Answer.{Answer, finished, refusal, status_of_count, usage_answer}
+use Rattle.outcome.specs.Ends.{EndsAs}
+use Rattle.outcome.specs.Streams.{Stream, Streams}
+use Rattle.outcome.specs.declared.status.Status.{Status}
+use Rattle.outcome.specs.declared.status.Status.TheVariants.{Done, Usage, OrderRefused, ReadFault, WriteFault, NoMemory}
+use Rattle.outcome.specs.declared.status.Status.TheVariants.{Open as StatusOpen}
+use Rattle.source_sink.specs.Outside.{Rose, Adds, AddsPart, AddsSome}
+use Rattle.source_sink.specs.Reading.{IsReadToEnd}
+use Rattle.timetable.specs.Answer.{answer_to, wanted_by}
+use Rattle.timetable.specs.Ended.{Ended}
+use Rattle.timetable.specs.Laws.{EndedBy, FinishedRunsWroteTheAnswer, IsAnOrder, IsFinished, IsNoOrder, IsRefused, IsUsage, OrdersAreRefusedForCause, ReadsAnOrder, ReadsItsSource, RightWordsAreAnswered, TablesAreRight, ToldBytesDecide, UsageIsForWrongWords, WrongOrdersAreRefused, WrongWordsAreRefused, undecided_by}
+use Rattle.timetable.specs.declared.words.Command.{Command}
+use Rattle.timetable.specs.declared.words.Command.TheVariants.{Unknown, Sun, Order, Plain}
 
--- an answer that gives a whole text
-abbrev pub IsAnswered : Answer → Type 0
-IsAnswered a = (a.status ≡ Done) ⊎ (a.status ≡ StatusOpen)
+-- ---- the three answers there are, by the command and its input
 
--- an answer that says that the input is no order
-pub record IsRefusal (a : Answer) : Type 0 where
-  pub status : a.status ≡ OrderRefused
-  pub text : a.text ≡ []
+-- wrong words
+record IsWrong (command : Command) (input : Input) : Type 0 where
+  pub words : command ≡ Unknown
+  pub answer : answer_to command input ≡ usage_answer
 
-pub sun_is_answered : (rest : List (List ℕ)) → IsSome (request_in rest) → IsAnswered (sun_answer rest)
-unfolding sun_answer
-sun_is_answered rest right = by (request_in rest) right where
-  by : (r : Option Request) → IsSome r → IsAnswered (sun_answer_to r)
-  by None some = cc
-  by (Some r) some = by_verdict (verdict_of r) where
-    by_verdict : (v : Verdict) → (status_of v ≡ Done) ⊎ (status_of v ≡ StatusOpen)
-    by_verdict Above = inl refl
-    by_verdict Below = inl refl
-    by_verdict Open = inr refl
+-- no order, where one is read
+record IsNone (command : Command) (input : Input) : Type 0 where
+  pub words : command ≢ Unknown
+  pub reads : ReadsAnOrder command
+  pub cause : IsNoOrder input
+  pub line : List ℕ
+  pub answer : answer_to command input ≡ refusal OrderRefused line
 
--- no other answer of `sun` is there
-pub sun_is_no_refusal : (rest : List (List ℕ)) → (sun_answer rest).status ≡ OrderRefused → ⊥
-unfolding sun_answer
-sun_is_no_refusal rest = by (request_in rest) where
-  by : (r : Option Request) → (sun_answer_to r).status ≡ OrderRefused → ⊥
-  by None same = cc
-  by (Some r) same = by_verdict (verdict_of r) same where
-    by_verdict : (v : Verdict) → status_of v ≡ OrderRefused → ⊥
-    by_verdict Above same = cc
-    by_verdict Below same = cc
-    by_verdict Open same = cc
+-- a whole text
+record IsText (command : Command) (input : Input) : Type 0 where
+  pub words : command ≢ Unknown
+  pub accepted : ReadsAnOrder command → IsAnOrder input
+  pub short : IsTooLong input → ⊥
+  pub text : List ℕ
+  pub answer : answer_to command input ≡ finished (undecided_by command input) text
 
-table_is_answered : (count : ℕ) → (cond (count == 0) Done StatusOpen ≡ Done) ⊎ (cond (count == 0) Done StatusOpen ≡ StatusOpen)
-table_is_answered count = by (count == 0) where
-  by : (t : Bool) → (cond t Done StatusOpen ≡ Done) ⊎ (cond t Done StatusOpen ≡ StatusOpen)
-  by true = inl refl
-  by false = inr refl
+abbrev Kinds : Command → Input → Type 0
+Kinds command input = IsWrong command input ⊎ (IsNone command input ⊎ IsText command input)
 
--- right words and, where the command reads one, an order are answered
-pub right_is_answered : (c : Command) (input : Input) → IsRightCommand c → (IsTrue (reads_input c) → IsOrder input) → IsAnswered (answer_to c input)
-unfolding order_answer table_answer
-right_is_answered none input right is_order = absurd right
-right_is_answered (sun words) input right is_order = sun_is_answered words right
-right_is_answered order (read (Ok o)) right is_order = inl refl
-right_is_answered order (read (Err fault)) right is_order = absurd (is_order refl)
-right_is_answered order too_long right is_order = absurd (is_order refl)
-right_is_answered order unread right is_order = absurd (is_order refl)
-right_is_answered plain (read (Ok o)) right is_order = table_is_answered (undecided o)
-right_is_answered plain (read (Err fault)) right is_order = absurd (is_order refl)
-right_is_answered plain too_long right is_order = absurd (is_order refl)
-right_is_answered plain unread right is_order = absurd (is_order refl)
+text_of : (command : Command) (input : Input) (text : List ℕ) → command ≢ Unknown → (ReadsAnOrder command → IsAnOrder input) →
+    (IsTooLong input → ⊥) → answer_to command input ≡ finished (undecided_by command input) text → Kinds command input
+text_of command input text known accepted short same =
+    inr (inr (record { words = known; accepted = accepted; short = short; text = text; answer = same }))
 
--- an input that is no order is refused
-pub wrong_is_refused : (c : Command) (input : Input) → IsTrue (reads_input c) → IsNoOrder input → IsRefusal (answer_to c input)
-wrong_is_refused none input reads wrong = cc
-wrong_is_refused (sun words) input reads wrong = cc
-wrong_is_refused order (read (Ok o)) reads wrong = absurd wrong
-wrong_is_refused order (read (Err fault)) reads wrong = record { status = refl; text = refl }
-wrong_is_refused order too_long reads wrong = record { status = refl; text = refl }
-wrong_is_refused order unread reads wrong = absurd wrong
-wrong_is_refused plain (read (Ok o)) reads wrong = absurd wrong
-wrong_is_refused plain (read (Err fault)) reads wrong = record { status = refl; text = refl }
-wrong_is_refused plain too_long reads wrong = record { status = refl; text = refl }
-wrong_is_refused plain unread reads wrong = absurd wrong
+none_of : (command : Command) (input : Input) (line : List ℕ) → command ≢ Unknown → ReadsAnOrder command → IsNoOrder input →
+    answer_to command input ≡ refusal OrderRefused line → Kinds command input
+none_of command input line known reads cause same =
+    inr (inl (record { words = known; reads = reads; cause = cause; line = line; answer = same }))
 
-answered_or : (a : Answer) → IsAnswered a → a.status ≡ Usage → ⊥
-answered_or a (inl done) same = let other : Done ≡ Usage = sym done ∙ same in cc
-answered_or a (inr opened) same = let other : StatusOpen ≡ Usage = sym opened ∙ same in cc
+kinds : (command : Command) (bytes : List ℕ) (input : Input) → IsSpelled (wanted_by command) bytes input → Kinds command input
+kinds Unknown bytes input spelled = inl (record { words = refl; answer = refl })
+kinds (Sun r) bytes unread spelled = text_of (Sun r) unread _ (λ same. cc) (λ same. absurd cc) (λ long. long) refl
+kinds (Sun r) bytes (order given) spelled = absurd spelled
+kinds Order bytes unread spelled = absurd spelled
+kinds Order bytes (order too_long) spelled = none_of Order (order too_long) _ (λ same. cc) refl tt refl
+kinds Order bytes (order (read (Err fault))) spelled = none_of Order (order (read (Err fault))) _ (λ same. cc) refl tt refl
+kinds Order bytes (order (read (Ok o))) spelled = text_of Order (order (read (Ok o))) _ (λ same. cc) (λ same. tt) (λ long. long) refl
+kinds Plain bytes unread spelled = absurd spelled
+kinds Plain bytes (order too_long) spelled = none_of Plain (order too_long) _ (λ same. cc) refl tt refl
+kinds Plain bytes (order (read (Err fault))) spelled = none_of Plain (order (read (Err fault))) _ (λ same. cc) refl tt refl
+kinds Plain bytes (order (read (Ok o))) spelled = text_of Plain (order (read (Ok o))) _ (λ same. cc) (λ same. tt) (λ long. long) refl
 
-refused_or : (a : Answer) → IsRefusal a → a.status ≡ Usage → ⊥
-refused_or a is same = let other : OrderRefused ≡ Usage = sym is.status ∙ same in cc
+kind_of : {command : Command} {status : Status} {before after : Streams} → (run : Ended command status before after) → Kinds command run.input
+kind_of {command = command} run = kinds command run.spelled.bytes run.input run.spelled.spelled
 
--- right words with an input are not answered by Usage
-pub right_is_no_usage : (c : Command) (input : Input) → IsRightCommand c → (IsTrue (reads_input c) → input ≢ unread) → (answer_to c input).status ≡ Usage → ⊥
-unfolding order_answer table_answer
-right_is_no_usage none input right has same = absurd right
-right_is_no_usage (sun words) input right has same = answered_or (sun_answer words) (sun_is_answered words right) same
-right_is_no_usage order (read (Ok o)) right has same = cc
-right_is_no_usage order (read (Err fault)) right has same = cc
-right_is_no_usage order too_long right has same = cc
-right_is_no_usage order unread right has same = has refl refl
-right_is_no_usage plain (read (Ok o)) right has same = answered_or (table_answer o) (table_is_answered (undecided o)) same
-right_is_no_usage plain (read (Err fault)) right has same = cc
-right_is_no_usage plain too_long right has same = cc
-right_is_no_usage plain unread right has same = has refl refl
+-- ---- how each ends
 
--- wrong words are answered by Usage, and nothing is read
-pub record IsUnknown (c : Command) (input : Input) : Type 0 where
-  pub answer : answer_to c input ≡ usage_answer
-  pub reads : reads_input c ≡ false
+ends_as : {command : Command} {status : Status} {before after : Streams} (run : Ended command status before after) (a : Answer) →
+    answer_to command run.input ≡ a → EndsAs a status before.source after.source before.out after.out
+ends_as {status = status} {before = before} {after = after} run a same =
+    let P : Answer → Type 0 = λ b. EndsAs b status before.source after.source before.out after.out in subst P same run.ends
 
-pub wrong_is_usage : (c : Command) (input : Input) → (IsRightCommand c → ⊥) → IsUnknown c input
-unfolding sun_answer
-wrong_is_usage none input wrong = record { answer = refl; reads = refl }
-wrong_is_usage (sun words) input wrong = by (request_in words) refl wrong where
-  by : (r : Option Request) → request_in words ≡ r → (IsSome (request_in words) → ⊥) → IsUnknown (sun words) input
-  by None is_none w = record { answer = ap sun_answer_to is_none; reads = refl }
-  by (Some r) is_some w = absurd (w (rw is_some refl))
-wrong_is_usage order input wrong = absurd (wrong tt)
-wrong_is_usage plain input wrong = absurd (wrong tt)
+no_text_count : (n : ℕ) (status : Status) → status ≢ Done → status ≢ StatusOpen → status ≢ status_of_count n
+no_text_count n status not_done not_open same = elim (done_or_open n) [ inl done ↦ not_done (same ∙ done) | inr undecided ↦ not_open (same ∙ undecided) ]
 
--- no byte of no text
-pub adds_none : (old new : Option (List ℕ)) (n : ℕ) → Adds old new (take n []) → Adds old new []
-adds_none old new zero added = added
-adds_none old new (suc n) added = added
-
--- an answer with a whole text is no refusal
-pub is_no_refusal : (a : Answer) (status : Status) → IsAnswered a → status ≡ a.status → (status ≡ Done) ⊎ (status ≡ StatusOpen)
-is_no_refusal a status answered same = elim answered [ inl done ↦ inl (same ∙ done) | inr open_one ↦ inr (same ∙ open_one) ]
-
-pub usage_ends : (status : Status) (source source' out out' : ℕ) (old new : Option (List ℕ)) →
-    EndsAs usage_answer status source source' out out' old new → (status ≡ ReadFault → ⊥) →
-    ((status ≡ Usage) ⊎ (status ≡ NoMemory)) × Adds old new []
+pub usage_is_for_wrong_words : UsageIsForWrongWords
 unfolding EndsAs
-usage_ends Done source source' out out' old new ends no_read = let same = ends.0 in absurd cc
-usage_ends StatusOpen source source' out out' old new ends no_read = let same = ends.0 in absurd cc
-usage_ends Usage source source' out out' old new ends no_read = (inl refl, ends.1)
-usage_ends OrderRefused source source' out out' old new ends no_read = let same = ends.0 in absurd cc
-usage_ends ReadFault source source' out out' old new ends no_read = absurd (no_read refl)
-usage_ends WriteFault source source' out out' old new ends no_read = let (n, less, part) = ends.1 in absurd (omega (arith, less))
-usage_ends NoMemory source source' out out' old new ends no_read = let (n, some) = ends in (inr refl, adds_none old new n some)
-usage_ends CoverRefused source source' out out' old new ends no_read = let same = ends.0 in absurd cc
+usage_is_for_wrong_words command before after run = by (kind_of run) where
+  by : Kinds command run.input → command ≡ Unknown
+  by (inl wrong) = wrong.words
+  by (inr (inl none)) = let same = (ends_as run (refusal OrderRefused none.line) none.answer).0 in absurd cc
+  by (inr (inr text)) =
+      absurd (no_text_count (undecided_by command run.input) Usage (λ e. cc) (λ e. cc)
+      (ends_as run (finished (undecided_by command run.input) text.text) text.answer).0)
 
-pub answered_ends : (a : Answer) (status : Status) (source source' out out' : ℕ) (old new : Option (List ℕ)) →
-    EndsAs a status source source' out out' old new → IsAnswered a → (Rose source source' → ⊥) → (Rose out out' → ⊥) →
-    (status ≡ Done) ⊎ (status ≡ StatusOpen) ⊎ (status ≡ NoMemory)
+pub wrong_words_are_refused : WrongWordsAreRefused
+wrong_words_are_refused status before after run =
+    by (ways usage_answer status before.source after.source before.out after.out run.ends)
+  where
+    by : Ways usage_answer status before.source after.source before.out after.out → IsUsage status before after
+    by (inl whole) = record { answered = inl whole.is; unread = run.leaves.0; unwritten = whole.added }
+    by (inr (inl no_read)) = absurd (run.leaves.1 no_read.is)
+    by (inr (inr (inl cut))) = absurd (no_part before.out after.out cut.added)
+    by (inr (inr (inr dry))) =
+        record { answered = inr dry.is; unread = run.leaves.0; unwritten = none_added before.out after.out dry.added }
+
+pub orders_are_refused_for_cause : OrdersAreRefusedForCause
 unfolding EndsAs
-answered_ends a Done source source' out out' old new ends answered no_read no_write = inl refl
-answered_ends a StatusOpen source source' out out' old new ends answered no_read no_write = inr (inl refl)
-answered_ends a Usage source source' out out' old new ends answered no_read no_write =
-    elim (is_no_refusal a Usage answered ends.0) [ inl done ↦ cc | inr undecided ↦ cc ]
-answered_ends a OrderRefused source source' out out' old new ends answered no_read no_write =
-    elim (is_no_refusal a OrderRefused answered ends.0) [ inl done ↦ cc | inr undecided ↦ cc ]
-answered_ends a ReadFault source source' out out' old new ends answered no_read no_write = absurd (no_read ends.0)
-answered_ends a WriteFault source source' out out' old new ends answered no_read no_write = absurd (no_write ends.0)
-answered_ends a NoMemory source source' out out' old new ends answered no_read no_write = inr (inr refl)
-answered_ends a CoverRefused source source' out out' old new ends answered no_read no_write =
-    elim (is_no_refusal a CoverRefused answered ends.0) [ inl done ↦ cc | inr undecided ↦ cc ]
+orders_are_refused_for_cause command before after run = by (kind_of run) where
+  by : Kinds command run.input → IsRefused command run.input before after
+  by (inl wrong) = let same = (ends_as run usage_answer wrong.answer).0 in absurd cc
+  by (inr (inl none)) = record {
+    reads = none.reads;
+    cause = none.cause;
+    unwritten = (ends_as run (refusal OrderRefused none.line) none.answer).1;
+  }
+  by (inr (inr text)) =
+      absurd (no_text_count (undecided_by command run.input) OrderRefused (λ e. cc) (λ e. cc)
+          (ends_as run (finished (undecided_by command run.input) text.text) text.answer).0)
 
--- a refusal's ending: nothing is written
-pub refusal_ends : (a : Answer) (status : Status) (source source' out out' : ℕ) (old new : Option (List ℕ)) → IsRefusal a →
-    EndsAs a status source source' out out' old new → (status ≡ OrderRefused) ⊎ (status ≡ ReadFault) ⊎ (status ≡ NoMemory)
-unfolding EndsAs
-refusal_ends a Done source source' out out' old new is ends = let other : Done ≡ OrderRefused = ends.0 ∙ is.status in absurd cc
-refusal_ends a StatusOpen source source' out out' old new is ends = let other : StatusOpen ≡ OrderRefused = ends.0 ∙ is.status in absurd cc
-refusal_ends a Usage source source' out out' old new is ends = let other : Usage ≡ OrderRefused = ends.0 ∙ is.status in absurd cc
-refusal_ends a OrderRefused source source' out out' old new is ends = inl refl
-refusal_ends a ReadFault source source' out out' old new is ends = inr (inl refl)
-refusal_ends a WriteFault source source' out out' old new is ends =
-    let (n, less, part) = ends.1 in
-    let none : length a.text ≡ 0 = ap length is.text in
-    absurd (omega (arith, less, none))
-refusal_ends a NoMemory source source' out out' old new is ends = inr (inr refl)
-refusal_ends a CoverRefused source source' out out' old new is ends = let other : CoverRefused ≡ OrderRefused = ends.0 ∙ is.status in absurd cc
+not_both : (input : Input) → IsAnOrder input → IsNoOrder input → ⊥
+not_both unread is no = is
+not_both (order too_long) is no = is
+not_both (order (read (Err fault))) is no = is
+not_both (order (read (Ok o))) is no = no
 
--- which answers are refusals of an order
-pub refused_for_cause : (c : Command) (input : Input) → OrderRefused ≡ (answer_to c input).status →
-    IsTrue (reads_input c) × IsNoOrder input × ((answer_to c input).text ≡ [])
-unfolding order_answer table_answer
-refused_for_cause none input same = absurd cc
-refused_for_cause (sun words) input same = absurd (sun_is_no_refusal words (sym same))
-refused_for_cause order (read (Ok o)) same = absurd cc
-refused_for_cause order (read (Err fault)) same = (refl, tt, refl)
-refused_for_cause order too_long same = (refl, tt, refl)
-refused_for_cause order unread same = absurd cc
-refused_for_cause plain (read (Ok o)) same = absurd (no_table (undecided o) same) where
-  no_table : (count : ℕ) → OrderRefused ≡ cond (count == 0) Done StatusOpen → ⊥
-  no_table count = by (count == 0) where
-    by : (t : Bool) → OrderRefused ≡ cond t Done StatusOpen → ⊥
-    by true s = cc
-    by false s = cc
-refused_for_cause plain (read (Err fault)) same = (refl, tt, refl)
-refused_for_cause plain too_long same = (refl, tt, refl)
-refused_for_cause plain unread same = absurd cc
+unknown_reads_none : (command : Command) → command ≡ Unknown → ReadsAnOrder command → ⊥
+unknown_reads_none command is reads = let same : nothing ≡ an_order = subst ReadsAnOrder is reads in cc
+
+pub wrong_orders_are_refused : WrongOrdersAreRefused
+wrong_orders_are_refused command status before after run reads wrong = by (kind_of run) where
+  by_line : (line : List ℕ) → Ways (refusal OrderRefused line) status before.source after.source before.out after.out →
+      (status ≡ OrderRefused) ⊎ (status ≡ ReadFault) ⊎ (status ≡ NoMemory)
+  by_line line (inl whole) = inl whole.is
+  by_line line (inr (inl no_read)) = inr (inl no_read.is)
+  by_line line (inr (inr (inl cut))) = absurd (no_part before.out after.out cut.added)
+  by_line line (inr (inr (inr dry))) = inr (inr dry.is)
+  by : Kinds command run.input → (status ≡ OrderRefused) ⊎ (status ≡ ReadFault) ⊎ (status ≡ NoMemory)
+  by (inl unknown) = absurd (unknown_reads_none command unknown.words reads)
+  by (inr (inl none)) =
+      by_line none.line (ways (refusal OrderRefused none.line) status _ _ _ _ (ends_as run (refusal OrderRefused none.line) none.answer))
+  by (inr (inr text)) = absurd (not_both run.input (text.accepted reads) wrong)
+
+pub right_words_are_answered : RightWordsAreAnswered
+right_words_are_answered command status before after run known accepted no_rise no_rise_out = by (kind_of run) where
+  by_text : (n : ℕ) (text : List ℕ) → Ways (finished n text) status before.source after.source before.out after.out →
+      (status ≡ Done) ⊎ (status ≡ StatusOpen) ⊎ (status ≡ NoMemory)
+  by_text n text (inl whole) =
+      elim (done_or_open n) [ inl done ↦ inl (whole.is ∙ done) | inr undecided ↦ inr (inl (whole.is ∙ undecided)) ]
+  by_text n text (inr (inl no_read)) = absurd (no_rise no_read.rose)
+  by_text n text (inr (inr (inl cut))) = absurd (no_rise_out cut.rose)
+  by_text n text (inr (inr (inr dry))) = inr (inr dry.is)
+  by : Kinds command run.input → (status ≡ Done) ⊎ (status ≡ StatusOpen) ⊎ (status ≡ NoMemory)
+  by (inl unknown) = absurd (known unknown.words)
+  by (inr (inl none)) = absurd (not_both run.input (accepted none.reads) none.cause)
+  by (inr (inr text)) =
+      by_text (undecided_by command run.input) text.text
+      (ways (finished (undecided_by command run.input) text.text) status _ _ _ _
+          (ends_as run (finished (undecided_by command run.input) text.text) text.answer))
+
+-- a status that is neither Done nor Open
+is_no_other : (status other : Status) → (status ≡ Done) ⊎ (status ≡ StatusOpen) → other ≢ Done → other ≢ StatusOpen → status ≢ other
+is_no_other status other (inl done) not_done not_open same = not_done (sym same ∙ done)
+is_no_other status other (inr undecided) not_done not_open same = not_open (sym same ∙ undecided)
+
+finished_is_whole : (a : Answer) (status : Status) (source source' out out' : Stream) → (status ≡ Done) ⊎ (status ≡ StatusOpen) →
+    Ways a status source source' out out' → IsWhole a status out out'
+finished_is_whole a status source source' out out' is (inl whole) = whole
+finished_is_whole a status source source' out out' is (inr (inl no_read)) = absurd (is_no_other status ReadFault is (λ e. cc) (λ e. cc) no_read.is)
+finished_is_whole a status source source' out out' is (inr (inr (inl cut))) = absurd (is_no_other status WriteFault is (λ e. cc) (λ e. cc) cut.is)
+finished_is_whole a status source source' out out' is (inr (inr (inr dry))) = absurd (is_no_other status NoMemory is (λ e. cc) (λ e. cc) dry.is)
+
+read_to_end : (wanted : Wanted) (input : Input) (status : Status) (source source' : Stream) → Leaves wanted input status source source' →
+    wanted ≢ nothing → status ≢ ReadFault → status ≢ NoMemory → (IsTooLong input → ⊥) → IsReadToEnd source.bytes source'.bytes
+read_to_end nothing input status source source' leaves wants not_read not_memory short = absurd (wants refl)
+read_to_end an_order input status source source' leaves wants not_read not_memory short = leaves.whole not_read not_memory short
+
+pub finished_runs_wrote_the_answer : FinishedRunsWroteTheAnswer
+finished_runs_wrote_the_answer command status before after run is = by (kind_of run) where
+  whole_as : (a : Answer) → answer_to command run.input ≡ a → IsWhole a status before.out after.out
+  whole_as a same = finished_is_whole a status _ _ _ _ is (ways a status _ _ _ _ (ends_as run a same))
+  by : Kinds command run.input → IsFinished command status run.input before after
+  by (inl unknown) = absurd (is_no_other status Usage is (λ e. cc) (λ e. cc) (whole_as usage_answer unknown.answer).is)
+  by (inr (inl none)) =
+      absurd (is_no_other status OrderRefused is (λ e. cc) (λ e. cc) (whole_as (refusal OrderRefused none.line) none.answer).is)
+  by (inr (inr text)) =
+      let n = undecided_by command run.input in
+      let whole = whole_as (finished n text.text) text.answer in
+      let P : Answer → Type 0 = λ a. Adds before.out.bytes after.out.bytes a.text in
+      record {
+        words = text.words;
+        read_through = λ reads. read_to_end (wanted_by command) run.input status before.source after.source run.leaves reads
+            (is_no_other status ReadFault is (λ e. cc) (λ e. cc)) (is_no_other status NoMemory is (λ e. cc) (λ e. cc)) text.short;
+        accepted = text.accepted;
+        written = subst P (sym text.answer) whole.added;
+        decided = λ is_done. done_none n (sym is_done ∙ whole.is);
+        undecided = λ is_open. open_some n (sym is_open ∙ whole.is);
+      }
+
+pub told_bytes_decide : ToldBytesDecide
+told_bytes_decide command status before after bytes input run told spelled =
+    let P : List ℕ → Type 0 = λ b. IsSpelled (wanted_by command) b input in
+    let too : P run.spelled.bytes = subst P (run.spelled.told bytes told) spelled in
+    let same : run.input ≡ input = inputs_agree (wanted_by command) run.spelled.bytes run.input input run.spelled.spelled too in
+    subst (λ (i : Input). EndedBy command status i before after) same (record { ends = run.ends; reports = run.reports })
+
+pub tables_are_right : TablesAreRight
+tables_are_right bytes o reads = right_table o (kept_by_rule o (orders_keep_the_rule.of_an_order bytes o reads))

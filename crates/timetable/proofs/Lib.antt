@@ -1,9 +1,4 @@
-pub mod Digits
-pub mod RequestLemmas
-pub mod TruthLemmas
-pub mod Streams
-pub mod Endings
 pub mod TableLemmas
-pub mod LawLemmas
-pub mod InputLemmas
 pub mod DayLemmas
+pub mod AnswerLemmas
+pub mod LawLemmas

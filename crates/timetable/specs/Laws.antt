@@ -1,70 +1,112 @@
 -- What follows from a run's ending for its words, its input and its streams.
-use Rattle.std.specs.Prelude.{◌≡◌, ◌≢◌, ℕ, List, Option, ◌⊎◌, [], IsSome, IsTrue, Ok, Err}
+use Rattle.std.specs.Prelude.{◌≡◌, ◌≢◌, ◌⊎◌, ℕ, List, [], Some, Ok, Err}
+use Rattle.command_input.specs.Input.{Input, IsSpelled, an_order, nothing, order, read, too_long}
+use Rattle.order_reader.specs.Asked.{Asked}
+use Rattle.order_reader.specs.Reads.{ReadsOrder}
+use Rattle.outcome.specs.Answer.{line_of}
+use Rattle.outcome.specs.Ends.{EndsAs, Reports}
+use Rattle.outcome.specs.Streams.{Streams}
+use Rattle.outcome.specs.declared.status.Status.{Status}
+use Rattle.outcome.specs.declared.status.Status.TheVariants.{Done, Open, Usage, OrderRefused, ReadFault, NoMemory}
 use Rattle.source_sink.specs.Outside.{Rose, Adds}
-use Rattle.timetable.specs.Answer.{answer_of, command_of, reads_input, Command, none, sun, order, plain}
-use Rattle.timetable.specs.Input.{Input, unread, too_long, read}
-use Rattle.timetable.specs.Request.{request_in}
-use Rattle.timetable.specs.Streams.{EndsAs}
-use Rattle.timetable.specs.declared.ending.Status.{Status}
-use Rattle.timetable.specs.declared.ending.Status.TheVariants.{Done, Open, Usage, OrderRefused, ReadFault, NoMemory}
+use Rattle.source_sink.specs.Reading.{IsReadToEnd}
+use Rattle.sun_verdict.specs.Line.{undecided_in}
+use Rattle.timetable.specs.Answer.{answer_to, wanted_by}
+use Rattle.timetable.specs.Ended.{Ended}
+use Rattle.timetable.specs.RightTable.{IsRightTable}
+use Rattle.timetable.specs.Table.{undecided}
+use Rattle.timetable.specs.declared.words.Command.{Command}
+use Rattle.timetable.specs.declared.words.Command.TheVariants.{Unknown, Sun, Plain}
 
--- the words that the program takes: `sun` and four words in their spelling and range, `order` or `plain` alone
-abbrev pub IsRightCommand : Command → Type 0
-IsRightCommand none = ⊥
-IsRightCommand (sun words) = IsSome (request_in words)
-IsRightCommand order = Unit {0}
-IsRightCommand plain = Unit {0}
+-- ---- words and inputs
 
-abbrev pub IsRight : List (List ℕ) → Type 0
-IsRight words = IsRightCommand (command_of words)
+abbrev pub ReadsItsSource : Command → Type 0
+ReadsItsSource command = wanted_by command ≢ nothing
+
+abbrev pub ReadsAnOrder : Command → Type 0
+ReadsAnOrder command = wanted_by command ≡ an_order
 
 -- the input is an order
-abbrev pub IsOrder : Input → Type 0
-IsOrder (read (Ok o)) = Unit {0}
-IsOrder input = ⊥
+abbrev pub IsAnOrder : Input → Type 0
+IsAnOrder (order (read (Ok o))) = Unit {0}
+IsAnOrder input = ⊥
 
 -- the input is no order, or too long for one
 abbrev pub IsNoOrder : Input → Type 0
-IsNoOrder too_long = Unit {0}
-IsNoOrder (read (Err fault)) = Unit {0}
+IsNoOrder (order too_long) = Unit {0}
+IsNoOrder (order (read (Err fault))) = Unit {0}
 IsNoOrder input = ⊥
 
--- a run with these words and this input ended with this status
-pub record Ended (words : List (List ℕ)) (input : Input) (status : Status) (source source' out out' : ℕ)
-    (old new : Option (List ℕ)) : Type 0 where
-  pub ends : EndsAs (answer_of words input) status source source' out out' old new
-  pub reads : status ≡ ReadFault → IsTrue (reads_input (command_of words))
-  -- a command that reads has an input that its source spelled
-  pub has_input : IsTrue (reads_input (command_of words)) → input ≢ unread
+-- how many entries or verdicts of the answer are undecided
+abbrev pub undecided_by : Command → Input → ℕ
+undecided_by (Sun r) input = undecided_in r
+undecided_by Plain (order (read (Ok o))) = undecided o
+undecided_by command input = 0
+
+-- ---- laws
 
 -- Usage is answered only where the words are wrong.
 abbrev pub UsageIsForWrongWords : Type 0
-UsageIsForWrongWords = (words : List (List ℕ)) (input : Input) (source source' out out' : ℕ) (old new : Option (List ℕ)) →
-    Ended words input Usage source source' out out' old new → IsRight words → ⊥
+UsageIsForWrongWords = (command : Command) (before after : Streams) → Ended command Usage before after → command ≡ Unknown
 
--- Wrong words are answered by Usage, want of memory aside, and nothing is written.
+-- Wrong words are answered by Usage, want of memory aside; nothing is read and nothing is written.
+pub record IsUsage (status : Status) (before after : Streams) : Type 0 where
+  pub answered : (status ≡ Usage) ⊎ (status ≡ NoMemory)
+  pub unread : after.source ≡ before.source
+  pub unwritten : Adds before.out.bytes after.out.bytes []
+
 abbrev pub WrongWordsAreRefused : Type 0
-WrongWordsAreRefused = (words : List (List ℕ)) (input : Input) (status : Status) (source source' out out' : ℕ)
-    (old new : Option (List ℕ)) → Ended words input status source source' out out' old new → (IsRight words → ⊥) →
-    ((status ≡ Usage) ⊎ (status ≡ NoMemory)) × Adds old new []
+WrongWordsAreRefused = (status : Status) (before after : Streams) → Ended Unknown status before after → IsUsage status before after
 
 -- OrderRefused is answered only by a command that reads an order, to an input that is none, and nothing is written.
+pub record IsRefused (command : Command) (input : Input) (before after : Streams) : Type 0 where
+  pub reads : ReadsAnOrder command
+  pub cause : IsNoOrder input
+  pub unwritten : Adds before.out.bytes after.out.bytes []
+
 abbrev pub OrdersAreRefusedForCause : Type 0
-OrdersAreRefusedForCause = (words : List (List ℕ)) (input : Input) (source source' out out' : ℕ) (old new : Option (List ℕ)) →
-    Ended words input OrderRefused source source' out out' old new →
-    IsTrue (reads_input (command_of words)) × IsNoOrder input × Adds old new []
+OrdersAreRefusedForCause =
+    (command : Command) (before after : Streams) → (run : Ended command OrderRefused before after) → IsRefused command run.input before after
 
 -- Such a command answers OrderRefused to each input that is no order, a read fault and want of memory aside.
 abbrev pub WrongOrdersAreRefused : Type 0
-WrongOrdersAreRefused = (words : List (List ℕ)) (input : Input) (status : Status) (source source' out out' : ℕ)
-    (old new : Option (List ℕ)) → Ended words input status source source' out out' old new →
-    IsTrue (reads_input (command_of words)) → IsNoOrder input →
-    (status ≡ OrderRefused) ⊎ (status ≡ ReadFault) ⊎ (status ≡ NoMemory)
+WrongOrdersAreRefused =
+    (command : Command) (status : Status) (before after : Streams) → (run : Ended command status before after) →
+    ReadsAnOrder command → IsNoOrder run.input → (status ≡ OrderRefused) ⊎ (status ≡ ReadFault) ⊎ (status ≡ NoMemory)
 
 -- Right words, and an order where the command reads one, are answered where no fault was counted, want of memory aside.
 abbrev pub RightWordsAreAnswered : Type 0
-RightWordsAreAnswered = (words : List (List ℕ)) (input : Input) (status : Status) (source source' out out' : ℕ)
-    (old new : Option (List ℕ)) → Ended words input status source source' out out' old new → IsRight words →
-    (IsTrue (reads_input (command_of words)) → IsOrder input) →
-    (Rose source source' → ⊥) → (Rose out out' → ⊥) →
+RightWordsAreAnswered =
+    (command : Command) (status : Status) (before after : Streams) → (run : Ended command status before after) →
+    command ≢ Unknown → (ReadsAnOrder command → IsAnOrder run.input) →
+    (Rose before.source.faults after.source.faults → ⊥) → (Rose before.out.faults after.out.faults → ⊥) →
     (status ≡ Done) ⊎ (status ≡ Open) ⊎ (status ≡ NoMemory)
+
+-- A run that is Done or Open took right words, read its source to the end and an order there where its command reads one, and
+-- wrote the whole text; it is Done exactly where nothing in it is undecided.
+pub record IsFinished (command : Command) (status : Status) (input : Input) (before after : Streams) : Type 0 where
+  pub words : command ≢ Unknown
+  pub read_through : ReadsItsSource command → IsReadToEnd before.source.bytes after.source.bytes
+  pub accepted : ReadsAnOrder command → IsAnOrder input
+  pub written : Adds before.out.bytes after.out.bytes (answer_to command input).text
+  pub decided : status ≡ Done → undecided_by command input ≡ 0
+  pub undecided : status ≡ Open → undecided_by command input ≢ 0
+
+abbrev pub FinishedRunsWroteTheAnswer : Type 0
+FinishedRunsWroteTheAnswer =
+    (command : Command) (status : Status) (before after : Streams) → (run : Ended command status before after) →
+    (status ≡ Done) ⊎ (status ≡ Open) → IsFinished command status run.input before after
+
+-- A run whose source told its bytes ended so by every input that they spell.
+pub record EndedBy (command : Command) (status : Status) (input : Input) (before after : Streams) : Type 0 where
+  pub ends : EndsAs (answer_to command input) status before.source after.source before.out after.out
+  pub reports : Reports (line_of (answer_to command input) status) before.err after.err
+
+abbrev pub ToldBytesDecide : Type 0
+ToldBytesDecide =
+    (command : Command) (status : Status) (before after : Streams) (bytes : List ℕ) (input : Input) → Ended command status before after →
+    before.source.bytes ≡ Some bytes → IsSpelled (wanted_by command) bytes input → EndedBy command status input before after
+
+-- The table of every order is right.
+abbrev pub TablesAreRight : Type 0
+TablesAreRight = (bytes : List ℕ) (o : Asked) → ReadsOrder bytes (Ok o) → IsRightTable o

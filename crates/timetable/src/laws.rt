@@ -1,12 +1,12 @@
 // What follows from how a run ended. Each law is the contract of a function that does nothing.
-ghost use Rattle.timetable.specs.Laws.{UsageIsForWrongWords, WrongWordsAreRefused, OrdersAreRefusedForCause, WrongOrdersAreRefused, RightWordsAreAnswered};
+ghost use Rattle.timetable.specs.Laws.{FinishedRunsWroteTheAnswer, OrdersAreRefusedForCause, RightWordsAreAnswered, TablesAreRight, ToldBytesDecide, UsageIsForWrongWords, WrongOrdersAreRefused, WrongWordsAreRefused};
 
 /// A run is ended by `Usage` only where the words are wrong.
 pub fn usage_is_for_wrong_words()
     ensures { UsageIsForWrongWords }
 {}
 
-/// Wrong words are answered by `Usage`, want of memory aside, and nothing is written.
+/// Wrong words are answered by `Usage`, want of memory aside, and nothing is read or written.
 pub fn wrong_words_are_refused()
     ensures { WrongWordsAreRefused }
 {}
@@ -25,4 +25,20 @@ pub fn wrong_orders_are_refused()
 /// want of memory aside.
 pub fn right_words_are_answered()
     ensures { RightWordsAreAnswered }
+{}
+
+/// `Done` and `Open` say that the words are right, the input is an order where the command reads one and was read to its
+/// end, and the whole text was written; `Done` exactly where nothing in it is undecided.
+pub fn finished_runs_wrote_the_answer()
+    ensures { FinishedRunsWroteTheAnswer }
+{}
+
+/// Where the source told its bytes, the run ended by every input that they spell, as stated.
+pub fn told_bytes_decide()
+    ensures { ToldBytesDecide }
+{}
+
+/// The entries of the table of every order are right, or open as said.
+pub fn tables_are_right()
+    ensures { TablesAreRight }
 {}

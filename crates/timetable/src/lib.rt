@@ -1,21 +1,14 @@
 // The program as one call: words and a source in, a text, a line on the error stream and a status out.
-// Contract: the answer is a stated function of the words and the input.
+// Contract: the run ended as a stated function of the words and the input says, on every stream.
 #![tactic(auto)]
 
-mod command;
 mod day;
-mod decimals;
-mod ending;
-mod input;
 pub mod laws;
 mod orders;
-mod plain;
-mod refusals;
-mod request;
-mod stop;
-mod sun;
+mod run;
 mod tables;
-mod verdict;
+mod words;
 
-pub use ending::Status;
-pub use plain::run_plain;
+pub use outcome::Status;
+pub use run::run_plain;
+pub use words::Command;

@@ -1,0 +1,42 @@
+-- The answer to an input, and what a run by it left of its source.
+use Rattle.std.specs.Prelude.{◌≡◌, ◌≢◌, ℕ, ◌≤◌, Ok, Err}
+use Rattle.command_input.specs.Input.{Input, IsSpelledBy, Wanted, limit_of, nothing, order, read, too_long}
+use Rattle.command_input.specs.Refusals.{long_line, refusal_line}
+use Rattle.order_reader.specs.Asked.{Asked}
+use Rattle.outcome.specs.Answer.{Answer, refusal, usage_answer}
+use Rattle.outcome.specs.Endings.{EndsBy, status_of_ending}
+use Rattle.outcome.specs.Streams.{Stream}
+use Rattle.outcome.specs.declared.ending.Ending.{Ending}
+use Rattle.outcome.specs.declared.status.Status.{Status}
+use Rattle.outcome.specs.declared.status.Status.TheVariants.{NoMemory, OrderRefused, ReadFault}
+use Rattle.source_sink.specs.Reading.{GivesWithin, IsReadToEnd}
+
+-- by the order that was read, or its first refusal
+abbrev pub answer_by : (Asked → Answer) → Input → Answer
+answer_by answer (order too_long) = refusal OrderRefused long_line
+answer_by answer (order (read (Err fault))) = refusal OrderRefused (refusal_line fault)
+answer_by answer (order (read (Ok o))) = answer o
+answer_by answer input = usage_answer
+
+abbrev pub IsTooLong : Input → Type 0
+IsTooLong (order too_long) = Unit {0}
+IsTooLong input = ⊥
+
+-- The first bytes of the source were taken, at most one piece more than the limit; and all of them, but for a read fault,
+-- want of memory, or an input that is too long.
+pub record IsTaken (limit : ℕ) (input : Input) (status : Status) (source source' : Stream) : Type 0 where
+  pub within : GivesWithin limit source.bytes source'.bytes
+  pub whole : status ≢ ReadFault → status ≢ NoMemory → (IsTooLong input → ⊥) → IsReadToEnd source.bytes source'.bytes
+  pub later : source.faults ≤ source'.faults
+
+-- the source after a run that ended with this status: where nothing is wanted, it is as it was
+abbrev pub Leaves : Wanted → Input → Status → Stream → Stream → Type 0
+Leaves nothing input status source source' = (source' ≡ source) × (status ≢ ReadFault)
+Leaves wanted input status source source' = IsTaken (limit_of wanted) input status source source'
+
+-- a run answered an input that its source spelled
+pub record Answers (wanted : Wanted) (answer : Input → Answer) (ending : Ending) (source source' out out' : Stream) : Type 0 where
+  pub input : Input
+  pub spelled : IsSpelledBy wanted source.bytes input
+  pub ends : EndsBy (answer input) ending source source' out out'
+  pub leaves : Leaves wanted input (status_of_ending ending) source source'

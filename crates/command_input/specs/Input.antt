@@ -1,0 +1,53 @@
+-- The input of a command: what the bytes of its source are as what it wants.
+use Rattle.std.specs.Prelude.{◌≡◌, ℕ, ◌<◌, ◌≤◌, List, length, Option, Some, Result}
+use Rattle.order_reader.specs.Asked.{Asked}
+use Rattle.order_reader.specs.Reads.{ReadsOrder}
+use Rattle.order_reader.specs.declared.fault.OrderFault.{OrderFault}
+
+-- what a command reads
+pub data Wanted : Type 0 where
+  nothing : Wanted
+  an_order : Wanted
+
+-- the most bytes of it
+abbrev pub limit_of : Wanted → ℕ
+limit_of nothing = 0
+limit_of an_order = 16_777_216
+
+-- bytes that were read to their end, or more of them than the limit
+pub data Given (X : Type 0) : Type 0 where
+  too_long : Given X
+  read : X → Given X
+
+pub data Input : Type 0 where
+  unread : Input
+  -- an order, or its first refusal
+  order : Given (Result Asked OrderFault) → Input
+
+-- what the bytes are by a reading of them, up to a limit
+abbrev pub IsGiven : {X : Type 0} → ℕ → (List ℕ → X → Type 0) → List ℕ → Given X → Type 0
+IsGiven limit Reads bytes too_long = limit < length bytes
+IsGiven limit Reads bytes (read x) = (length bytes ≤ limit) × Reads bytes x
+
+-- what the bytes are as what is wanted
+abbrev pub IsSpelled : Wanted → List ℕ → Input → Type 0
+IsSpelled nothing bytes unread = Unit {0}
+IsSpelled an_order bytes (order given) = IsGiven (limit_of an_order) ReadsOrder bytes given
+IsSpelled wanted bytes input = ⊥
+
+-- the input of a run whose source had these bytes left, where it told them
+pub record IsSpelledBy (wanted : Wanted) (left : Option (List ℕ)) (input : Input) : Type 0 where
+  pub bytes : List ℕ
+  pub told : (x : List ℕ) → left ≡ Some x → x ≡ bytes
+  pub spelled : IsSpelled wanted bytes input
+
+-- ---- laws
+
+-- all bytes are an input
+abbrev pub EveryTextIsAnInput : Type 0
+EveryTextIsAnInput = (wanted : Wanted) (bytes : List ℕ) → (input : Input) × IsSpelled wanted bytes input
+
+-- of one kind
+abbrev pub InputsAgree : Type 0
+InputsAgree =
+    (wanted : Wanted) (bytes : List ℕ) (i j : Input) → IsSpelled wanted bytes i → IsSpelled wanted bytes j → i ≡ j

@@ -1,0 +1,4 @@
+pub mod Refusals
+pub mod Input
+pub mod Taken
+pub mod Answers

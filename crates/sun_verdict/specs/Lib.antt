@@ -1,0 +1,5 @@
+pub mod Decimals
+pub mod Request
+pub mod Verdict
+pub mod Truth
+pub mod Line

@@ -1,7 +1,0 @@
-use Rattle.timetable.proofs.Digits.{is_below_scaled}
-use Rattle.timetable.proofs.decimals.places.Goals as goal
-
-pub returns-clause-bound : goal.returns-clause-bound
-returns-clause-bound c =
-    let below = rw c.as_bytes.ensures.value at c.in_ok-value.ensures.bound in
-    is_below_scaled c.in_ok-value.value _ c.scale.result below c.scale.ensures.bound
