@@ -2,3 +2,4 @@ pub mod TableLemmas
 pub mod DayLemmas
 pub mod AnswerLemmas
 pub mod LawLemmas
+pub mod MemoryLemmas

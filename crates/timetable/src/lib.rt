@@ -4,11 +4,13 @@
 
 mod day;
 pub mod laws;
+mod memory;
 mod orders;
 mod run;
 mod tables;
 mod words;
 
+pub use memory::run_in_memory;
 pub use outcome::Status;
 pub use run::run_plain;
 pub use words::Command;
