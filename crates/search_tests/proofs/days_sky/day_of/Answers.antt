@@ -1,0 +1,26 @@
+use Rattle.std.proofs.Common.{FitsSigned, arith, rules}
+use Rattle.std.specs.Int.{w32}
+use Rattle.std.specs.Prelude.{pos}
+use Rattle.std.proofs.lemmas.Int.{ints, to_z-of_z}
+use Rattle.method_table.specs.declared.method.Asr.TheVariants.{Standard}
+use Rattle.method_table.specs.declared.method.Method.TheVariants.{Mwl}
+use Rattle.cell_judge.specs.DayLaws.{IsDay}
+use Rattle.cell_judge.proofs.DayLaws.{days_are_in_limits}
+use Rattle.search_tests.proofs.days_sky.day_of.Goals as goal
+
+pub invariant_of-result : goal.invariant_of-result
+invariant_of-result c =
+    let day : FitsSigned w32 c.args.number = c.ranges.number in
+    let is : IsDay c.args.number (pos 0) (pos 720) 0 = record {
+      not_early = c.requires.not_early;
+      not_late = c.requires.not_late;
+      offset_not_low = omega (arith, ints);
+      offset_not_high = omega (arith, ints);
+      noon_not_negative = omega (arith, ints);
+      noon_below_a_day = omega (arith, ints);
+      not_high = omega arith;
+    } in
+    record {
+      counted = search rules;
+      limits = days_are_in_limits Mwl Standard c.args.number (pos 0) (pos 720) 0 (pos 90) is c.problems-problems.result (simp to_z-of_z at c.problems-problems.ensures);
+    }
