@@ -6,6 +6,7 @@ import shutil
 import subprocess
 import tempfile
 import unittest
+import zoneinfo
 
 TESTS = os.path.dirname(os.path.abspath(__file__))
 TOOLS = os.path.dirname(TESTS)
@@ -37,6 +38,11 @@ def needs_module(module, package):
 
 def needs_command(command, package):
     return unittest.skipUnless(shutil.which(command) or shutil.which(command, path='/usr/sbin:/sbin'), f'{package} is missing')
+
+
+def needs_zones():
+    known = any(os.path.isfile(os.path.join(folder, 'Asia/Riyadh')) for folder in zoneinfo.TZPATH)
+    return unittest.skipUnless(known, 'tzdata is missing')
 
 
 class ToolTest(unittest.TestCase):

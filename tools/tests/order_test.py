@@ -2,7 +2,7 @@
 import gzip
 import json
 
-from common import ToolTest, data, example, read
+from common import ToolTest, data, example, needs_zones, read
 
 WORDS = ('--year', '2025', '--method', 'makkah', '--asr', 'standard')
 
@@ -23,6 +23,7 @@ class OrderTest(ToolTest):
             self.assertIn(line, told)
         self.assertNotIn('warning', told)
 
+    @needs_zones()
     def test_zones(self):
         for zone, member in (('+03:00', 180), ('Asia/Riyadh', 180), ('<+03>-3', 180), ('-0330', -210), ('+14', 840),
                              ('Africa/Cairo', 'EET-2EEST,M4.5.5/0,M10.5.4/24'), ('Europe/Berlin', 'CET-1CEST,M3.5.0,M10.5.0/3'),
@@ -30,6 +31,7 @@ class OrderTest(ToolTest):
             with self.subTest(zone):
                 self.assertEqual(json.loads(self.order(*WORDS, '--zone', zone)[0])['zone'], member)
 
+    @needs_zones()
     def test_wrong_zones_are_stopped(self):
         for zone, said in (('Africa/Casablanca', 'order the days before and after'), ('Asia/Nowhere', 'no zone of this name'),
                            ('EST5EDT', 'no POSIX rule'), ('3', 'neither an offset'), ('+15:00', 'zones lie from'),

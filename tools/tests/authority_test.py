@@ -1,0 +1,54 @@
+"""docs/authority.md, followed from its first line: each command in order, each output as the page has it."""
+import os
+import re
+import subprocess
+import unittest
+
+from common import BUILT, PROGRAM, REFERENCE, SECONDS, TOP, ToolTest, needs_command, needs_module, needs_zones, read
+
+PAGE = os.path.join(TOP, 'docs', 'authority.md')
+
+
+def commands(page):
+    """The commands of a page's blocks, with the lines below them."""
+    found = []
+    for block in re.findall(r'^```\n(.*?)^```\n', page, re.M | re.S):
+        for part in re.split(r'^\$ ', block, flags=re.M)[1:]:
+            command, _, output = part.partition('\n')
+            found.append((command, output))
+    return found
+
+
+@unittest.skipIf(PROGRAM == REFERENCE, f'the program is not built ({BUILT})')
+@needs_module('osgeo', 'python3-gdal')
+@needs_module('shapely', 'python3-shapely')
+@needs_module('weasyprint', 'weasyprint')
+@needs_command('parallel', 'parallel')
+@needs_zones()
+class AuthorityTest(ToolTest):
+    def clone(self):
+        """What the commands name, seen from a folder of their own."""
+        for name in ('tools', 'examples', 'docs'):
+            os.symlink(os.path.join(TOP, name), self.path(name))
+        self.write('timetable', f'#!/bin/sh\nexec {PROGRAM} "$@"\n')
+        os.chmod(self.path('timetable'), 0o755)
+
+    def answer(self, command):
+        run = subprocess.run(['sh', '-c', command], stdin=subprocess.DEVNULL, stdout=subprocess.PIPE, stderr=subprocess.STDOUT,
+                             cwd=self.folder, timeout=SECONDS, text=True)
+        return run.stdout.replace(self.folder, '.')
+
+    def test_each_command_prints_what_the_page_says(self):
+        self.clone()
+        known = commands(read(PAGE))
+        self.assertGreater(len(known), 15)
+        for command, output in known:
+            with self.subTest(command):
+                self.assertEqual(self.answer(command), output)
+        for name in ('najran.html', 'najran-wall.pdf', 'najran-months.pdf'):
+            self.assertGreater(os.path.getsize(self.path(name)), 10_000)
+
+    def test_every_refusal_of_the_formats_is_in_the_table(self):
+        page = read(PAGE)
+        for detail in re.findall(r'^\| `([1-8] [a-z]+(?: [1-6])?)', read(os.path.join(TOP, 'docs/formats.md')), re.M):
+            self.assertIn(detail, page)
