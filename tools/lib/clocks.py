@@ -10,7 +10,9 @@ from outcome import Fault
 
 OFFSET = re.compile(r'([+-])([0-9]{1,2})(?::?([0-9]{2}))?')
 NAME = re.compile(r'[A-Za-z][A-Za-z0-9_+-]*(/[A-Za-z0-9_+-]+)*')
-RULE_START = re.compile(r'(<[A-Za-z0-9+-]{3,}>|[A-Za-z]{3,})[+-]?[0-9]')
+LETTERS = r'(?:<[A-Za-z0-9+-]{3,15}>|[A-Za-z]{3,15})'
+RULE_START = re.compile(LETTERS + '[+-]?[0-9]')
+RULE = re.compile(rf'{LETTERS}[+-]?[0-9:]+(?:{LETTERS}[+-]?[0-9:]*,[!-~]+)?')
 WESTMOST, EASTMOST = -720, 840
 
 
@@ -20,6 +22,8 @@ def header(types):
 
 def zone_of_rule(rule):
     """The zone of a POSIX rule: a zone file that holds nothing but the rule, read by the standard library."""
+    if not RULE.fullmatch(rule):
+        raise Fault(f'zone {rule}: no POSIX rule')
     utc = struct.pack('>lbB', 0, 0, 0) + b'UTC\0'
     try:
         return zoneinfo.ZoneInfo.from_file(io.BytesIO(header(1) + utc + header(1) + utc + b'\n%s\n' % rule.encode('ascii')))

@@ -1,6 +1,6 @@
 """Borders as lists of polygons, each a list of rings of positions in whole microdegrees; read from and written as GeoJSON."""
 import json
-from decimal import ROUND_HALF_UP, Decimal
+from decimal import MAX_EMAX, MIN_EMIN, ROUND_HALF_UP, Context, Decimal
 
 from outcome import Fault, read_text
 
@@ -10,6 +10,7 @@ FARTHEST_NORTH = 65_000_000
 FARTHEST_EAST = 360_000_000
 MILLION = 1_000_000
 WGS_84 = ('crs84', '4326')
+EXACT = Context(prec=2000, Emin=MIN_EMIN, Emax=MAX_EMAX)
 
 
 def pairs_once(pairs):
@@ -29,15 +30,24 @@ def read_json(path):
     except json.JSONDecodeError as error:
         raise Fault(f'{path}: no JSON at line {error.lineno}, column {error.colno}: {error.msg}. '
                     'A shapefile, GeoPackage or KML is made into a border by tools/border')
+    except RecursionError:
+        raise Fault(f'{path}: lists stand too deep inside each other')
     except Fault as fault:
         raise Fault(f'{path}: {fault}')
+
+
+def rounded(value):
+    """A decimal of degrees in whole microdegrees; one of a billion degrees and more counts as very far."""
+    if value and value.adjusted() > 9:
+        return 10 ** 15
+    return int(EXACT.multiply(value, MILLION).quantize(Decimal(1), ROUND_HALF_UP, EXACT))
 
 
 def micro(value):
     """A number of degrees as whole microdegrees, a half away from zero, as the program rounds."""
     if isinstance(value, bool) or not isinstance(value, (int, Decimal)):
         raise Fault(f'a position holds {json.dumps(value, default=str)[:40]} where a number stands')
-    return int((Decimal(value) * MILLION).quantize(Decimal(1), ROUND_HALF_UP)) if abs(value) < 10 ** 9 else 10 ** 15
+    return rounded(Decimal(value))
 
 
 def ring_of(value):

@@ -2,6 +2,7 @@
 import datetime
 import json
 from dataclasses import dataclass
+from decimal import Decimal
 
 import clocks
 import geojson
@@ -91,11 +92,19 @@ def stop_on_wrong_members(order):
     stop_on_wrong_late(order.get('late_isha', []), order['method'])
 
 
+def whole(value):
+    """A number spelled with a point or an exponent that is a whole one, as that."""
+    if isinstance(value, Decimal) and -20 < value.adjusted() < 7 and value == int(value):
+        return int(value)
+    return value
+
+
 def read(path):
     """An order out of a file; a member that the program would pass over is stopped."""
     order = geojson.read_json(path)
     if not isinstance(order, dict):
         raise Fault(f'{path}: no JSON object')
+    order = {name: whole(value) for name, value in order.items()}
     for name in order:
         if name not in KNOWN:
             raise Fault(f'{path}: the member "{name}" is none of {", ".join(KNOWN)}: the program would pass over it')
@@ -106,9 +115,9 @@ def read(path):
     if not isinstance(order['zone'], str) and not is_whole(order['zone'], clocks.WESTMOST, clocks.EASTMOST):
         raise Fault(f'{path}: zone: {order["zone"]} is neither whole minutes from -720 to 840 nor a rule')
     days = days_of(date_of(order['from'], 'from'), order['days'])
-    zone, offsets = clocks.read_member(order['zone'], days)
+    _, offsets = clocks.read_member(order['zone'], days)
     polygons = geojson.polygons_of(order['district'], path)
     geojson.stop_beyond_limits(polygons, path)
     late = [tuple(date_of(text, 'late_isha') for text in pair) for pair in order.get('late_isha', [])]
-    return Order(days, order['method'], order['asr'], zone, dict(zip(days, offsets)), order.get('height', 0), late,
+    return Order(days, order['method'], order['asr'], order['zone'], dict(zip(days, offsets)), order.get('height', 0), late,
                  order.get('sun', 'usno'), polygons)

@@ -1,9 +1,9 @@
 """Borders out of any vector file that GDAL reads, as polygons in whole microdegrees of WGS 84."""
 import os
 import re
-from decimal import ROUND_HALF_UP, Decimal
+from decimal import Decimal
 
-from geojson import FARTHEST_NORTH, MILLION, degrees
+from geojson import FARTHEST_NORTH, MILLION, degrees, rounded
 from outcome import Fault
 
 os.environ['PROJ_NETWORK'] = 'OFF'
@@ -27,23 +27,27 @@ def open_file(path):
         raise Fault(f'{path}: GDAL reads no borders in it: {error}')
 
 
-def has_polygons(layer):
+def may_hold_polygons(layer):
+    """2 where a layer is of polygons, 1 where it may hold some, else 0."""
     kind = ogr.GT_Flatten(layer.GetGeomType())
-    return kind in (ogr.wkbPolygon, ogr.wkbMultiPolygon, ogr.wkbCurvePolygon, ogr.wkbMultiSurface, ogr.wkbUnknown,
-                    ogr.wkbGeometryCollection)
+    if kind in (ogr.wkbPolygon, ogr.wkbMultiPolygon, ogr.wkbCurvePolygon, ogr.wkbMultiSurface):
+        return 2
+    return 1 if kind in (ogr.wkbUnknown, ogr.wkbGeometryCollection) else 0
 
 
 def layer_of(source, path, name):
-    """The layer named, or the only one that may hold polygons."""
+    """The layer named, or the only one of polygons, or the only one that may hold some."""
     layers = [source.GetLayer(i) for i in range(source.GetLayerCount())]
-    names = [layer.GetName() for layer in layers]
+    names = ', '.join(layer.GetName() for layer in layers)
     if name is not None:
-        if name not in names:
-            raise Fault(f'{path}: no layer {name}; there are {", ".join(names)}')
-        return source.GetLayerByName(name)
-    fit = [layer for layer in layers if has_polygons(layer)]
+        layers = [layer for layer in layers if layer.GetName() == name]
+        if not layers:
+            raise Fault(f'{path}: no layer {name}; there are {names}')
+        return layers[0]
+    best = max(map(may_hold_polygons, layers), default=0)
+    fit = [layer for layer in layers if best and may_hold_polygons(layer) == best]
     if len(fit) != 1:
-        raise Fault(f'{path}: {len(fit)} layers may hold polygons: name one by --layer: {", ".join(names)}')
+        raise Fault(f'{path}: {len(fit)} layers may hold polygons: name one by --layer: {names}')
     return fit[0]
 
 
@@ -103,7 +107,7 @@ def to_degrees(polygon, system, target, label):
 def micro(value, label):
     if not abs(value) <= 1_000:
         raise Fault(f'{label} has a coordinate {value}, which is no degree: is the coordinate system right?')
-    return int((Decimal(value) * MILLION).quantize(Decimal(1), ROUND_HALF_UP))
+    return rounded(Decimal(value))
 
 
 def ring_of(shape, label):

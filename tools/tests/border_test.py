@@ -124,6 +124,14 @@ class BorderTest(ToolTest):
                 self.assertEqual(sorted(geojson.positions(polygons_of(self.path(name + '.geojson')))),
                                  sorted(geojson.positions(polygons_of(source))))
 
+    def test_openstreetmap(self):
+        places = [(39, 21), (40, 21), (40, 22), (39, 22)]
+        nodes = ''.join(f'<node id="{i}" lon="{x}" lat="{y}"/>' for i, (x, y) in enumerate(places, 1))
+        way = ''.join(f'<nd ref="{i}"/>' for i in (1, 2, 3, 4, 1))
+        self.write('a.osm', f'<osm version="0.6">{nodes}<way id="9">{way}<tag k="boundary" v="administrative"/></way></osm>')
+        self.done('border', 'a.osm', '--out', 'a.geojson')
+        self.assertEqual(geojson.box(polygons_of(self.path('a.geojson'))), (39000000, 21000000, 40000000, 22000000))
+
     def test_wrong_files_are_stopped(self):
         line = self.write('line.geojson', '{"type":"LineString","coordinates":[[39,21],[40,21]]}')
         north = self.write('north.geojson', json.dumps({'type': 'Polygon', 'coordinates': [[[20, 66], [21, 66], [21, 67], [20, 66]]]}))

@@ -1,8 +1,23 @@
 """Orders from words, and orders that stand."""
+import collections
 import gzip
+import importlib.util
 import json
+import os
+import random
+import re
+import shlex
+import subprocess
+import sys
 
-from common import ToolTest, data, example, needs_zones, read
+import orders
+from common import PROGRAM, SECONDS, TOP, ToolTest, data, example, needs_zones, read
+from outcome import Fault
+
+sys.path.append(os.path.join(TOP, 'bench'))
+SPEC = importlib.util.spec_from_file_location('drawn', os.path.join(TOP, 'bench/orders.py'))
+drawn = importlib.util.module_from_spec(SPEC)
+SPEC.loader.exec_module(drawn)
 
 WORDS = ('--year', '2025', '--method', 'makkah', '--asr', 'standard')
 
@@ -103,3 +118,27 @@ class OrderTest(ToolTest):
         self.assertIn('mean noon 09:00', told)
         told = self.done('order', '--look', self.write('o.json', text.replace('"zone":180,', '"zone":"UTC+3",')))[1]
         self.assertIn('is the zone right', told)
+
+    def test_random_orders_are_read_as_the_program_reads_them(self):
+        draw, met = random.Random(1), collections.Counter()
+        for _ in range(80):
+            with open(self.path('o.json'), 'wb') as file:
+                file.write(drawn.order(draw))
+            line = self.canonical(self.path('o.json'))
+            try:
+                read_here = orders.read(self.path('o.json'))
+            except Fault as fault:
+                met['stopped'] += 1
+                self.assertTrue(line is None or re.search('is none of|stands twice', str(fault)), fault)
+                continue
+            met['read'] += 1
+            self.assertIsNotNone(line)
+            district = [[[tuple(p) for p in ring] for ring in polygon] for polygon in json.loads(line)['district']]
+            self.assertEqual(read_here.polygons, district)
+        self.assertGreater(min(met.values()), 15)
+
+    def canonical(self, path):
+        """What the program makes of an order, or None where it refuses it."""
+        with open(path, 'rb') as file:
+            run = subprocess.run(shlex.split(PROGRAM) + ['order'], stdin=file, capture_output=True, timeout=SECONDS)
+        return run.stdout if run.returncode == 0 else None

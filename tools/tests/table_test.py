@@ -70,6 +70,11 @@ class TwiceTest(ToolTest):
             text, _ = self.done('twice', example(name + '.json'), example(name + '.txt'))
             self.assertIn(' 0 different\n', text)
 
+    def test_a_rule_that_is_an_offset_reads_rule_in_the_head(self):
+        order = self.write('o.json', read(example('bahrain.json')).replace('"zone":180', '"zone":"<+03>-3"'))
+        table = self.write('t.txt', read(example('bahrain.txt')).replace('zone 180', 'zone rule'))
+        self.assertIn(' 0 different', self.done('twice', order, table)[0])
+
     def test_every_minute_moved_by_one_is_found(self):
         line = '2025-07-01  04:26  05:59  12:57  16:22  19:49  21:09  21:16'
         text = read(example('qina-hole.txt'))
