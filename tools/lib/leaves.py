@@ -6,11 +6,12 @@ from itertools import groupby
 import tables
 
 TITLES = ('Fajr', 'ends', 'Dhuhr', 'Asr', 'Maghrib', 'ends', 'Isha')
-MONTHS = ('January', 'February', 'March', 'April', 'May', 'June', 'July', 'August', 'September', 'October', 'November', 'December')
+MONTHS = ('January', 'February', 'March', 'April', 'May', 'June', 'July', 'August', 'September', 'October', 'November',
+          'December')
 WEEKDAYS = ('Mo', 'Tu', 'We', 'Th', 'Fr', 'Sa', 'Su')
 FRIDAY = 4
-IN_A_ROW = 6
-WORDS = {'fajr': 'fajr', 'fajr_end': 'f.end', 'dhuhr': 'dhuhr', 'asr': 'asr', 'maghrib': 'magh', 'maghrib_end': 'm.end', 'isha': 'isha'}
+LEAST_IN_A_ROW = 4
+WORDS = dict(zip(('fajr', 'fajr_end', 'dhuhr', 'asr', 'maghrib', 'maghrib_end', 'isha'), tables.COLUMNS))
 MEANINGS = (
     'Each minute is safe at every place of the district: a beginning is the first minute from which it is, an end (in italics) '
     'the last until which it is.',
@@ -72,8 +73,10 @@ def page(title, body):
 
 def year_sheet(table, title, under, names, hashes):
     blocks = [f'<div class="month">{month_table(days, names, False)}</div>' for days in months_of(table)]
-    blocks += ['<div class="month"></div>'] * (-len(blocks) % IN_A_ROW)
-    rows = '\n'.join('<div class="six">\n%s\n</div>' % '\n'.join(blocks[i:i + IN_A_ROW]) for i in range(0, len(blocks), IN_A_ROW))
+    wide = max(LEAST_IN_A_ROW, -(-len(blocks) // 2))
+    blocks += ['<div class="month"></div>'] * (-len(blocks) % wide)
+    kind = 'row narrow' if wide > 6 else 'row'
+    rows = '\n'.join(f'<div class="{kind}">\n%s\n</div>' % '\n'.join(blocks[i:i + wide]) for i in range(0, len(blocks), wide))
     body = (f'<section class="year"><h1>{escape(title)}</h1><p class="under">{escape(under)}</p>\n'
             f'{rows}\n{footer(table, table.days, hashes)}</section>')
     return page(title, body)

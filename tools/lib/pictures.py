@@ -26,8 +26,9 @@ TITLES = {'fajr': 'Fajr begins', 'f.end': 'Fajr ends', 'dhuhr': 'Dhuhr begins', 
           'm.end': 'Maghrib ends', 'isha': 'Isha begins'}
 COLUMNS, ROWS = 84, 60
 MILLION = geojson.MILLION
+NOT_SHOWN = float('nan')
 
-pyplot.rcParams.update({'svg.fonttype': 'none', 'svg.hashsalt': 'timetable', 'font.family': 'DejaVu Sans', 'font.size': 10,
+pyplot.rcParams.update({'svg.hashsalt': 'timetable', 'font.family': 'DejaVu Sans', 'font.size': 10,
                         'axes.edgecolor': EDGE, 'axes.labelcolor': INK, 'text.color': INK, 'xtick.color': EDGE,
                         'ytick.color': EDGE})
 
@@ -138,6 +139,14 @@ def moment_of(minute):
     return datetime.datetime(2000, 1, 1) + datetime.timedelta(minutes=minute)
 
 
+def strokes(days, column):
+    """A short line a day, at its minute, and a gap after it: one path for all."""
+    noons = [dates.date2num(day.date) + 0.5 for day in days]
+    minutes = [dates.date2num(moment_of(day.minute(column))) for day in days]
+    return ([x for noon in noons for x in (noon - 0.5, noon + 0.5, noon)],
+            [y for minute in minutes for y in (minute, minute, NOT_SHOWN)])
+
+
 def year(path, name, column, order, found):
     """A column's printed minutes over the days of a table, coloured by the deciding place, beside the district."""
     if not found:
@@ -147,10 +156,11 @@ def year(path, name, column, order, found):
     shown = known[:len(PLACES) - 1]
     for place in known:
         days = [day for day, decides in found if decides == place]
-        course.plot([day.date for day in days], [moment_of(day.minute(column)) for day in days], 's', markersize=2.6,
-                    color=color_of(place, known))
+        course.plot(*strokes(days, column), linewidth=2.6, color=color_of(place, known))
         plan.plot(place[0] / MILLION, place[1] / MILLION, 'o', markersize=8, color=color_of(place, known),
                   markeredgecolor='white', zorder=4)
+    course.xaxis_date()
+    course.yaxis_date()
     course.yaxis.set_major_formatter(dates.DateFormatter('%H:%M'))
     course.xaxis.set_major_locator(dates.AutoDateLocator(maxticks=7))
     course.xaxis.set_major_formatter(dates.DateFormatter('%b' if len(found) > 60 else '%d %b'))
@@ -167,6 +177,7 @@ def year(path, name, column, order, found):
             for p in shown]
     if len(known) > len(shown):
         rest = len(found) - sum(counts.values())
-        keys.append(pyplot.Line2D([], [], marker='o', linestyle='', color=PLACES[-1], label=f'{len(known) - len(shown)} others: {rest} days'))
+        keys.append(pyplot.Line2D([], [], marker='o', linestyle='', color=PLACES[-1],
+                                  label=f'{len(known) - len(shown)} others: {rest} days'))
     plan.legend(handles=keys, loc='upper center', bbox_to_anchor=(0.5, -0.12), frameon=False, fontsize=8)
     save(figure, path)
