@@ -153,7 +153,13 @@ fn tile_at(root: &Cell, size: u8, east: u64, north: u64) -> Cell
 }
 
 // The edges that reach the row of tiles at this distance from the root's corner.
-fn row_band(alloc: Global, district: &District, root: &Cell, size: u8, north: u64) -> Result<Band, NoMemory>
+fn row_band(
+    alloc: Global,
+    district: &District,
+    root: &Cell,
+    size: u8,
+    north: u64,
+) -> Result<Band, NoMemory>
     requires root { IsRoot root.now }
     requires size { size ≤ 29 }
     requires north { north + 2 ^ size ≤ 2 ^ 29 }
@@ -225,7 +231,11 @@ fn least_size(length: u64) -> u8
 }
 
 /// The tables of a district's large boxes.
-pub(crate) fn large_places(alloc: Global, district: &District, root: &Cell) -> Result<Tables, NoMemory>
+pub(crate) fn large_places(
+    alloc: Global,
+    district: &District,
+    root: &Cell,
+) -> Result<Tables, NoMemory>
     requires root { IsRoot root.now }
     requires over { IsOver root.now district.now }
     ensures not_small { IfOk result (λ tables. 4 ≤ tables.least) }
@@ -243,7 +253,13 @@ pub(crate) fn large_places(alloc: Global, district: &District, root: &Cell) -> R
 
 /// The place that is named for the cell, whose box is that of the tile. A tile beyond the district's
 /// reach has none.
-pub(crate) fn place_at(district: &District, root: &Cell, tables: &Tables, cell: &Cell, seat: Seat) -> Option<Point>
+pub(crate) fn place_at(
+    district: &District,
+    root: &Cell,
+    tables: &Tables,
+    cell: &Cell,
+    seat: Seat,
+) -> Option<Point>
     requires root { IsRoot root.now }
     requires over { IsOver root.now district.now }
     requires cell { IsCellOf root.now cell.now }

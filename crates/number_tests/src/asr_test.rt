@@ -1,6 +1,6 @@
 // The Asr value against vectors that an independent program computed in whole numbers.
-use asr_test::asr_value;
 use altitude_test::Place;
+use asr_test::asr_value;
 use fixed_interval::Interval;
 use solar_terms::Minutes;
 use solar_terms::observatory::sun;

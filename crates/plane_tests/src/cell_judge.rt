@@ -383,11 +383,7 @@ fn squares(alloc: Global, count: u32) -> Result<District, RegionFault>
 
 #[test]
 fn each_of_a_hundred_polygons_is_judged(rt: HostRuntime) -> Result<(), Fail> {
-    let sky = Sky::new(
-        rt.alloc(),
-        squares(rt.alloc(), 100)?,
-        problems_of(DAY, 720),
-    )?;
+    let sky = Sky::new(rt.alloc(), squares(rt.alloc(), 100)?, problems_of(DAY, 720))?;
     assert_eq!(rt; sky.district().polygon_count(), 100);
     for i in 0..100 {
         let inside = Cell {
