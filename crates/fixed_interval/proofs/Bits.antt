@@ -52,6 +52,10 @@ ends_called f r x y e h p q = called f r x y x y e (typed r h) (within x p) (wit
 pub narrow : (z : ℤ) → unsigned_abs z ≤ 2 ^ 45 → bits_of (to_z w64 (of_z w64 z)) ≡ z
 narrow z h = omega (arith, ints)
 
+-- a number that was cast to 64 bits
+pub cast : (z : ℤ) → unsigned_abs z < 2 ^ 63 → to_z w64 (of_z w64 (bits_of z)) ≡ z
+cast z h = let wide : bits_of z ≡ z = back z (omega arith) in rw wide (omega (arith, ints))
+
 pub end_fits : (z : ℤ) → unsigned_abs z ≤ 2 ^ 71 → unsigned_abs z ≤ 2 ^ 126
 end_fits z h = omega arith
 

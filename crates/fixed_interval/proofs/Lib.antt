@@ -4,6 +4,7 @@ pub mod GridLaws
 pub mod Bits
 pub mod Sizes
 pub mod Products
+pub mod Corners
 pub mod Newton
 pub mod RootLaws
 pub mod Roots

@@ -57,6 +57,12 @@ module _ {a : Interval} {b : Ends} {p q : ℤ} (f : AreFactors a b p q) where
 pub interval_factors : (a b : Interval) → reach (ends a) * reach (ends b) ≤ 2 ^ 126 → AreFactors a (ends b) (bits_of b.lo) (bits_of b.hi)
 interval_factors a b h = record { low = within b.lo b.low_in_range; high = within b.hi b.high_in_range; fits = h }
 
+pub narrow_enough : (a b : Interval) → reach (ends a) < 2 ^ 63 → reach (ends b) < 2 ^ 63 → reach (ends a) * reach (ends b) ≤ 2 ^ 126
+narrow_enough a b h k =
+    let first : reach (ends a) ≤ 2 ^ 63 = omega (arith, h) in
+    let second : reach (ends b) ≤ 2 ^ 63 = omega (arith, k) in
+    le_trans (mul-le-mul first second) (lit≤ tt)
+
 -- an interval and a range of units always are
 pub range_factors : (a : Interval) (b : Ends) → unsigned_abs b.lo ≤ 2 ^ 44 → unsigned_abs b.hi ≤ 2 ^ 44 → AreFactors a b (bits_of (to_z w64 (of_z w64 b.lo))) (bits_of (to_z w64 (of_z w64 b.hi)))
 range_factors a b h k =

@@ -16,7 +16,7 @@ mod tests;
 
 use steps::{
     ceil_quotient, ceil_to_grid, corner_products, exact_product, floor_quotient, floor_to_grid,
-    radicand, root_down, root_up, signed_square,
+    narrow_corner_products, radicand, root_down, root_up, signed_square,
 };
 
 /// The numbers from `lo` / 2^56 to `hi` / 2^56: fixed-point interval arithmetic, every result rounded outward.
@@ -89,7 +89,11 @@ impl Interval {
         ensures value { ends result ≡ grid_product (ends self) (ends other) }
         ensures bound { reach (ends result) ≤ div_ceil (reach (ends self) * reach (ends other)) UNIT }
     {
-        self.product(other)
+        let (least, greatest) = narrow_corner_products(self.lo, self.hi, other.lo, other.hi);
+        Interval {
+            lo: floor_to_grid(least),
+            hi: ceil_to_grid(greatest),
+        }
     }
 
     /// All numbers of the interval over `n`, which is at least 1.

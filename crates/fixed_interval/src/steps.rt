@@ -1,5 +1,6 @@
 // Steps on whole numbers. Each does one operation, so that its clause is exact and the operations above only join them.
-ghost use Rattle.std.specs.Prelude.{◌≡◌, ◌*◌, ◌^◌, ◌≤◌, pos, ◌*ℤ◌, ◌≤ℤ◌, unsigned_abs, max};
+ghost use Rattle.std.specs.Prelude.{◌≡◌, ◌*◌, ◌^◌, ◌≤◌, pos, ◌<◌, ◌*ℤ◌, ◌≤ℤ◌, unsigned_abs, max};
+ghost use Rattle.std.specs.Int.{int_min, int_max};
 ghost use Rattle.fixed_interval.specs.Whole.{floor_over, ceil_over, least_of_four, greatest_of_four};
 ghost use Rattle.fixed_interval.specs.Enclosure.{natural, whole_root as the_whole_root, root_up};
 
@@ -38,6 +39,55 @@ pub fn corner_products(lo: i128, hi: i128, low: i128, high: i128) -> (i128, i128
     let c = exact_product(hi, low);
     let d = exact_product(hi, high);
     (least(a, b, c, d), greatest(a, b, c, d))
+}
+
+/// The same for ends below 2^63: the sign of an end of one picks the end of the other.
+pub fn narrow_corner_products(lo: i128, hi: i128, low: i128, high: i128) -> (i128, i128)
+    requires other_ordered { low ≤ℤ high }
+    requires lo_narrow { unsigned_abs lo < 2 ^ 63 }
+    requires hi_narrow { unsigned_abs hi < 2 ^ 63 }
+    requires low_narrow { unsigned_abs low < 2 ^ 63 }
+    requires high_narrow { unsigned_abs high < 2 ^ 63 }
+    ensures least { result.0 ≡ least_of_four (lo *ℤ low) (lo *ℤ high) (hi *ℤ low) (hi *ℤ high) }
+    ensures greatest { result.1 ≡ greatest_of_four (lo *ℤ low) (lo *ℤ high) (hi *ℤ low) (hi *ℤ high) }
+{
+    let (lo, hi) = (lo as i64, hi as i64);
+    let (low, high) = (low as i64, high as i64);
+    (
+        lesser_product(lo, low, high).min(lesser_product(hi, low, high)),
+        greater_product(lo, low, high).max(greater_product(hi, low, high)),
+    )
+}
+
+/// The lesser of the products of `x` with `low` and with `high`.
+fn lesser_product(x: i64, low: i64, high: i64) -> i128
+    requires { low ≤ℤ high }
+    ensures { result ≡ int_min (x *ℤ low) (x *ℤ high) }
+{
+    if 0 <= x {
+        word_product(x, low)
+    } else {
+        word_product(x, high)
+    }
+}
+
+/// The greater of the products of `x` with `low` and with `high`.
+fn greater_product(x: i64, low: i64, high: i64) -> i128
+    requires { low ≤ℤ high }
+    ensures { result ≡ int_max (x *ℤ low) (x *ℤ high) }
+{
+    if 0 <= x {
+        word_product(x, high)
+    } else {
+        word_product(x, low)
+    }
+}
+
+/// The product of two words.
+fn word_product(x: i64, y: i64) -> i128
+    ensures { result ≡ x *ℤ y }
+{
+    x as i128 * y as i128
 }
 
 /// `x` / 2^56, rounded down.

@@ -1,9 +1,10 @@
 -- Products and quotients of numbers that aren't negative, as plain formulas.
-use Rattle.std.proofs.Common.{◌≡◌, ℕ, ◌+◌, ◌*◌, ◌/◌, ◌<◌, ◌≤◌, ℤ, pos, neg_ℤ, ◌*ℤ◌, arith, ap, sym, ◌∙◌, refl, lit≤, mul-le-mul, le_refl, zero, suc}
+use Rattle.std.proofs.Common.{◌≡◌, ℕ, ◌+◌, ◌*◌, ◌/◌, ◌-◌, ◌<◌, ◌≤◌, ℤ, pos, neg_ℤ, ◌*ℤ◌, arith, ap, sym, ◌∙◌, refl, lit≤, mul-le-mul, le_refl, zero, suc}
 use Rattle.std.specs.Int.{div_ceil}
 use Rattle.std.proofs.Math.Nat.{zero-div, zero-mul}
 use Rattle.std.proofs.lemmas.Int.{ints, clamps}
 use Rattle.std.proofs.lemmas.Grind.{div_ceil_times}
+use Rattle.std.proofs.lemmas.Nat.{div-mul-add}
 use Rattle.fixed_interval.specs.Grid.{Ends, UNIT, grid_product, grid_divide_by}
 use Rattle.fixed_interval.specs.Whole.{floor_over, ceil_over, least_of_four, greatest_of_four}
 use Rattle.fixed_interval.proofs.Whole.{div_unique}
@@ -18,6 +19,15 @@ ceil-natural m n h = let near = div_ceil_times m n h in core m n (div_ceil m n) 
   where
     core : (m n d : ℕ) → 0 < n → m ≤ d * n → d * n < m + n → ceil_over (pos m) n ≡ pos d
     core m n d h p q = ap neg_ℤ (div_unique (neg_ℤ (pos m)) (neg_ℤ (pos d)) n h (rw (neg-times (pos d) (pos n)) (omega (arith, ints))) (rw (neg-times (pos d) (pos n)) (omega (arith, ints)))) ∙ omega (arith, ints)
+
+-- a quotient rounded up, with no test of what is left
+pub div_ceil-is : (m n : ℕ) → 1 ≤ n → (m + (n - 1)) / n ≡ div_ceil m n
+div_ceil-is m n h = core (div_ceil m n) (div_ceil_times m n h)
+  where
+    core : (d : ℕ) → (m ≤ d * n) × (d * n < m + n) → (m + (n - 1)) / n ≡ d
+    core d near =
+        let left : m + (n - 1) ≡ d * n + (m + (n - 1) - d * n) = omega (arith, near.0, near.1) in
+        ap (λ (x : ℕ). x / n) left ∙ div-mul-add d n (m + (n - 1) - d * n) (omega (arith, near.0, near.1, h))
 
 pub divided : (l h n : ℕ) → 0 < n → record { lo = pos (l / n); hi = pos (div_ceil h n) } ≡ grid_divide_by (record { lo = pos l; hi = pos h }) n
 divided l h n p = (λ i. record { lo = pos (l / n); hi = sym (ceil-natural h n p) i }) ∙ sym (grid_divide_by-is (record { lo = pos l; hi = pos h }) n p)

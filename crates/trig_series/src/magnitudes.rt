@@ -85,15 +85,16 @@ impl Magnitudes {
         }
     }
 
-    /// All numbers over `n`, which is at least 1.
+    /// All numbers over `n`, which is from 1 to 1,000.
     #[inline(always)]
     pub(crate) fn divide_by(self, n: u64) -> Magnitudes
-        requires { 1 ≤ n }
+        requires positive { 1 ≤ n }
+        requires small { n ≤ 1_000 }
         ensures { ends_of result ≡ grid_divide_by (ends_of self) n }
     {
         Magnitudes {
             least: self.least / n,
-            greatest: self.greatest.div_ceil(n),
+            greatest: (self.greatest + (n - 1)) / n,
         }
     }
 }
