@@ -11,8 +11,6 @@ ghost use Rattle.fixed_interval.specs.Grid.{grid_scale_units, grid_times_ratio};
 pub mod laws;
 mod root;
 mod steps;
-#[cfg(test)]
-mod tests;
 
 use steps::{
     ceil_quotient, ceil_to_grid, corner_products, exact_product, floor_quotient, floor_to_grid,

@@ -13,6 +13,3 @@ pub use problem::{Column, Kind, Problem, Side};
 pub use rank::{column_word, minute_of};
 pub use sunset::horizon;
 pub use table::{noon_of, problems};
-
-#[cfg(test)]
-mod tests;

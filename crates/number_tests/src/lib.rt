@@ -3,6 +3,10 @@
 #![tactic(auto)]
 
 #[cfg(test)]
-mod altitude_test;
+mod fixed_interval;
 #[cfg(test)]
-mod asr_test;
+mod method_table;
+#[cfg(test)]
+mod solar_terms;
+#[cfg(test)]
+mod trig_series;

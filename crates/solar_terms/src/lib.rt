@@ -10,8 +10,6 @@ mod angles;
 pub mod laws;
 pub mod observatory;
 pub mod ranges;
-#[cfg(test)]
-mod tests;
 
 use fixed_interval::Interval;
 use trig_series::Angle;

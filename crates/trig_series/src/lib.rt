@@ -10,8 +10,6 @@ mod quarters;
 mod radians;
 mod series;
 mod short;
-#[cfg(test)]
-mod tests;
 
 ghost use Rattle.std.specs.Prelude.{◌≡◌, ◌^◌, ◌≤◌, ◌≤ℤ◌, unsigned_abs};
 

@@ -1,8 +1,8 @@
 // What no clause says: that the definitions mean what they should. The ends come from an independent program.
 ghost use Rattle.std.specs.Prelude.{◌-ℤ◌, ◌≤ℤ◌, pos};
 
-use crate::{Angle, cosine, pi, sine};
 use std::process::Abort;
+use trig_series::{Angle, cosine, pi, sine, sine_and_cosine};
 
 /// A range of angles, its sine and its cosine: the lower and the upper end of each.
 type Case = ((i128, i128), (i128, i128), (i128, i128));
@@ -287,10 +287,13 @@ fn angle(rt: &impl Abort, lo: i128, hi: i128) -> Angle
 fn computed_vectors(rt: HostRuntime) {
     for ((lo, hi), sines, cosines) in CASES {
         let a = angle(&rt, lo, hi);
-        let s = sine(a);
-        assert_eq!(rt; (s.lo, s.hi), sines, "sine of {lo} to {hi}");
-        let c = cosine(a);
-        assert_eq!(rt; (c.lo, c.hi), cosines, "cosine of {lo} to {hi}");
+        let both = sine_and_cosine(a);
+        for s in [sine(a), both.sine] {
+            assert_eq!(rt; (s.lo, s.hi), sines, "sine of {lo} to {hi}");
+        }
+        for c in [cosine(a), both.cosine] {
+            assert_eq!(rt; (c.lo, c.hi), cosines, "cosine of {lo} to {hi}");
+        }
     }
 }
 

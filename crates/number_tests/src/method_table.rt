@@ -1,5 +1,5 @@
 // Worked rows of the table.
-use crate::{
+use method_table::{
     Asr, Column, Kind, Method, Side, asr_word, column_word, horizon, method_of, method_word,
     minute_of, noon_of, problems,
 };

@@ -3,7 +3,7 @@ ghost use Rattle.std.specs.Prelude.{pos, ◌≡◌, ◌*◌, ◌^◌, ◌≤◌,
 ghost use Rattle.fixed_interval.specs.Grid.{reach};
 ghost use Rattle.fixed_interval.specs.Interval.{ends};
 
-use super::Interval;
+use fixed_interval::Interval;
 use std::process::Abort;
 use std::str::SplitWhitespace;
 

@@ -1,7 +1,7 @@
 // The sun against vectors that an independent program computed in whole numbers.
-use crate::Minutes;
-use crate::observatory::sun;
 use fixed_interval::Interval;
+use solar_terms::Minutes;
+use solar_terms::observatory::sun;
 use std::process::Abort;
 
 type Ends = (i128, i128);
