@@ -10,8 +10,6 @@ mod line;
 mod runs;
 mod settled;
 mod settling;
-#[cfg(test)]
-mod tests;
 
 pub use entry::{entry_by, entry_of};
 pub use laws::letters_are_those_of_the_children;

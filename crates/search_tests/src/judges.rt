@@ -1,7 +1,10 @@
 // Judges by which the searches are tried.
-ghost use Rattle.cell_split.specs.Cells.{IsRoot};
+ghost use Rattle.std.proofs.Common.{rules};
+ghost use Rattle.std.specs.Prelude.{pos};
+ghost use Rattle.cell_split.specs.Cells.{IsRoot, root_at};
+ghost use Rattle.cell_split.specs.declared.verdict.Verdict.TheVariants.{Outside, Proved};
 
-use cell_split::{Cell, Judge, Task, Verdict};
+use cell_split::{Cell, Judge, Task, Verdict, root_at};
 use region::Point;
 
 /// Refutes the ranks up to 99, proves those from 101 on, and is open at rank 100 in the root's corner.
@@ -114,4 +117,48 @@ impl Judge for Steps {
             Verdict::Split
         }
     }
+}
+
+/// Finds no place of a district anywhere.
+#[derive(Drop)]
+pub struct Nobody;
+
+impl Judge for Nobody {
+    ghost content = { λ _. record { problems = 1; root = root_at (pos 0) (pos 0); verdict = λ _. Outside } };
+
+    fn problems(&self) -> u32 {
+        1
+    }
+
+    fn root(&self) -> Cell {
+        root_at(0, 0)
+    }
+
+    fn judge(&self, _: Task) -> Verdict {
+        Verdict::Outside
+    }
+
+    ghost lawful = { Prim.search rules };
+}
+
+/// Proves everything at once.
+#[derive(Drop)]
+pub struct Sure;
+
+impl Judge for Sure {
+    ghost content = { λ _. record { problems = 1; root = root_at (pos 0) (pos 0); verdict = λ _. Proved } };
+
+    fn problems(&self) -> u32 {
+        1
+    }
+
+    fn root(&self) -> Cell {
+        root_at(0, 0)
+    }
+
+    fn judge(&self, _: Task) -> Verdict {
+        Verdict::Proved
+    }
+
+    ghost lawful = { Prim.search rules };
 }

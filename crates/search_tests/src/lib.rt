@@ -5,6 +5,10 @@
 #[cfg(test)]
 mod bound_word;
 #[cfg(test)]
+mod covering;
+#[cfg(test)]
+mod covering_check;
+#[cfg(test)]
 mod days_sky;
 #[cfg(test)]
 mod judges;

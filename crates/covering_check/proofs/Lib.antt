@@ -1,0 +1,9 @@
+pub mod CellTests
+pub mod Digits
+pub mod Latest
+pub mod Reading
+pub mod Settled
+pub mod Showing
+pub mod Taking
+pub mod TruthLemmas
+pub mod Valued

@@ -1,0 +1,21 @@
+-- What a claim and its letters show.
+use Rattle.std.proofs.Common.{◌≡◌, ℕ, true, Option, None, Result, Ok, refl, sym, ap, ◌∙◌}
+use Rattle.cell_split.specs.declared.verdict.Leaf.{Leaf}
+use Rattle.cell_split.specs.Entries.{entry_by}
+use Rattle.cell_split.specs.Judges.{Content}
+use Rattle.cell_split.specs.Tree.{root_task}
+use Rattle.covering_check.specs.declared.claim.Claim.{Claim}
+use Rattle.covering_check.specs.declared.fault.CoverFault.{CoverFault}
+use Rattle.covering_check.specs.Checks.{answer_by, entry_over, is_failing, is_spent, shown_by}
+use Rattle.covering_check.specs.Gives.{◌>>=◌}
+use Rattle.covering_check.specs.Marks.{Marks}
+use Rattle.covering_check.specs.Members.{word_of_claim}
+use Rattle.covering_check.specs.Visits.{latest_open, taken, visited}
+use Rattle.covering_check.proofs.Latest.{latest_first}
+
+pub shown_entry : (c : Content) (k : ℕ) (claim : Claim) (letters rest : Marks) (found : Option Leaf) → taken (word_of_claim claim) (visited c (word_of_claim claim) (root_task c k)) letters ≡ Ok rest → found ≡ latest_open (word_of_claim claim) None (visited c (word_of_claim claim) (root_task c k)) → is_spent rest ≡ true → is_failing c k claim ≡ true → shown_by c k claim letters ≡ Ok (entry_by (word_of_claim claim) found)
+shown_entry c k claim letters rest found walked open' spent failing =
+    let word = word_of_claim claim in
+    let cells = visited c word (root_task c k) in
+    let first = open' ∙ latest_first word cells in
+    ap (λ (r : Result Marks CoverFault). r >>= answer_by c k claim) walked ∙ (rw (spent, failing) refl ∙ ap (λ (o : Option Leaf). Ok (entry_by word o)) (sym first))

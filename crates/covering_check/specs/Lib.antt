@@ -1,0 +1,10 @@
+pub mod Cells
+pub mod Numerals
+pub mod Members
+pub mod Gives
+pub mod Marks
+pub mod Visits
+pub mod Left
+pub mod Checks
+pub mod Truth
+pub mod Acceptance
