@@ -104,3 +104,13 @@ def text_of(head_line, days):
         lines.append(day.date.isoformat() + ''.join(f' {entry}' for entry in day.entries))
         lines += day.below
     return '\n'.join(lines + [f'end days {len(days)} open 0', ''])
+
+
+def stop_on_other_order(table, order, name):
+    """An order, by its members as they are spelled, asks for what the table's head says, positions aside."""
+    said = {'from': order['from'], 'days': str(order['days']), 'method': order['method'], 'asr': order['asr'],
+            'zone': 'rule' if isinstance(order['zone'], str) else str(order['zone']),
+            'height': str(order['height']) if order.get('height') else None}
+    for key, value in said.items():
+        if table.head[key] != value:
+            raise Fault(f'{name} has {key} {value}, and the table {table.head[key]}: it is no table of this order')

@@ -11,6 +11,9 @@ from osgeo import gdal, ogr, osr  # noqa: E402 (the line above is read when thes
 
 gdal.UseExceptions()
 osr.UseExceptions()
+# Formats that are read from the file alone: none follows addresses within it.
+FORMATS = ['ESRI Shapefile', 'GPKG', 'GeoJSON', 'GeoJSONSeq', 'TopoJSON', 'KML', 'LIBKML', 'FlatGeobuf', 'MapInfo File', 'OSM',
+           'CSV', 'SQLite']
 STEP_METRES = 1_000
 TURN = 360 * MILLION
 
@@ -22,9 +25,9 @@ def open_file(path):
     full = os.path.abspath(path)
     prefix = {'.zip': '/vsizip/', '.gz': '/vsigzip/'}.get(os.path.splitext(path)[1].lower(), '')
     try:
-        return gdal.OpenEx(prefix + full, gdal.OF_VECTOR)
+        return gdal.OpenEx(prefix + full, gdal.OF_VECTOR, allowed_drivers=FORMATS)
     except RuntimeError as error:
-        raise Fault(f'{path}: GDAL reads no borders in it: {error}')
+        raise Fault(f'{path}: GDAL reads no borders in it, as {", ".join(FORMATS)}: {error}')
 
 
 def may_hold_polygons(layer):

@@ -33,13 +33,13 @@ class CheckTest(ToolTest):
     def test_it_tells_what_holds_all_and_what_does_not(self):
         real = [[square(0, 0, 100, 100), square(40, 40, 60, 60)], [square(200, 0, 230, 30)]]
         both = [[square(-1, -1, 101, 101)], [square(199, -1, 231, 31)]]
+        cut = [(-1, -1), (101, -1), (101, 99), (99, 101), (-1, 101), (-1, -1)]
         for what, new, holds in (
                 ('a hole left out', both, True), ('a hole in the hole', [[both[0][0], square(45, 45, 55, 55)], both[1]], True),
                 ('one around both', [[square(-9, -9, 300, 300)]], True), ('an island left out', both[:1], False),
                 ('a hole that is too large', [[both[0][0], square(39, 39, 61, 61)], both[1]], False),
                 ('a hole where there is none', [[both[0][0], square(10, 10, 20, 20)], both[1]], False),
-                ('the same border', real, False), ('a corner cut off', [[[(-1, -1), (101, -1), (101, 99), (99, 101), (-1, 101), (-1, -1)]],
-                                                                       both[1]], False)):
+                ('the same border', real, False), ('a corner cut off', [[cut], both[1]], False)):
             with self.subTest(what):
                 self.assertEqual(self.lost(real, new) is None, holds)
 
@@ -48,8 +48,8 @@ class CheckTest(ToolTest):
         self.assertIsNone(self.lost(real, [[square(-1, -1, 60, 11)]], (0, 0, 50, 10)))
         self.assertIsNotNone(self.lost(real, [[square(-1, -1, 60, 11)]], (0, 0, 61, 10)))
         self.assertIsNone(self.lost([[square(-90, -90, 90, 90)]], [[square(-5, -5, 5, 5)]], (-4, -4, 4, 4)))
-        self.assertIsNotNone(self.lost([[square(-90, -90, 90, 90)]], [[square(20, 20, 30, 30)]], (-4, -4, 4, 4)))
-        self.assertIsNotNone(self.lost([[square(-90, -90, 90, 90)]], [[square(-5, -5, 5, 5), square(-2, -2, 2, 2)]], (-4, -4, 4, 4)))
+        for new in ([square(20, 20, 30, 30)], [square(-5, -5, 5, 5), square(-2, -2, 2, 2)]):
+            self.assertIsNotNone(self.lost([[square(-90, -90, 90, 90)]], [new], (-4, -4, 4, 4)))
 
     def test_random_small_borders_agree_with_every_place_of_a_net(self):
         draw = random.Random(1)
@@ -134,11 +134,14 @@ class BorderTest(ToolTest):
 
     def test_wrong_files_are_stopped(self):
         line = self.write('line.geojson', '{"type":"LineString","coordinates":[[39,21],[40,21]]}')
-        north = self.write('north.geojson', json.dumps({'type': 'Polygon', 'coordinates': [[[20, 66], [21, 66], [21, 67], [20, 66]]]}))
+        north = self.write('north.geojson', '{"type":"Polygon","coordinates":[[[20,66],[21,66],[21,67],[20,66]]]}')
+        far = self.write('far.vrt', '<OGRVRTDataSource><OGRVRTLayer name="a"><SrcDataSource>/vsicurl/http://127.0.0.1:1/a'
+                         '</SrcDataSource></OGRVRTLayer></OGRVRTDataSource>')
         bare = self.write('bare.csv', 'WKT,name\n"POLYGON((39 21,40 21,40 22,39 21))",a\n')
         turkey = data('turkey.geojson.gz')
         for words, said in (((line,), 'may hold polygons'), ((north,), 'latitude 67'), ((bare,), 'no coordinate system'),
-                            (('none.shp',), 'no such file'), ((example('bahrain.txt'),), 'reads no borders'),
+                            (('none.shp',), 'no such file'), ((far,), 'reads no borders'),
+                            ((example('bahrain.txt'),), 'reads no borders'),
                             ((turkey, '--where', "name='Nowhere'"), 'no polygon among 0 features'),
                             ((turkey, '--where', 'nam = 1'), '--where'), ((turkey, '--layer', 'x'), 'no layer x'),
                             ((turkey, '--crs', 'EPSG:4326'), 'leave --crs out'), ((bare, '--crs', 'EPSG:x'), '--crs EPSG:x')):

@@ -93,12 +93,14 @@ class OrderTest(ToolTest):
                             (('--year', '2025', '--height', '9001'), 'height: 9001'),
                             (('--year', '2025', '--late-isha', '2025-03-01..2025-03-29'), 'only the method makkah')):
             with self.subTest(said):
-                self.stopped(said, 'order', '--border', self.border(), '--method', 'mwl', '--asr', 'standard', '--zone', '+03:00', *words)
+                self.stopped(said, 'order', '--border', self.border(), '--method', 'mwl', '--asr', 'standard', '--zone', '+03:00',
+                             *words)
         self.assertEqual(self.run_tool('order', '--border', 'x', '--method', 'mecca').returncode, 2)
         self.stopped('--zone is missing', 'order', '--border', self.border(), *WORDS)
 
     def test_a_year_has_all_its_days_and_ramadan_its_isha(self):
-        words = ('--method', 'makkah', '--asr', 'hanafi', '--zone', '+03:00', '--late-isha', '2024-03-11..2024-04-09', '--height', '1293')
+        words = ('--method', 'makkah', '--asr', 'hanafi', '--zone', '+03:00', '--late-isha', '2024-03-11..2024-04-09',
+                 '--height', '1293')
         order = json.loads(self.order('--year', '2024', *words)[0])
         self.assertEqual((order['from'], order['days'], order['late_isha'], order['height']),
                          ('2024-01-01', 366, [['2024-03-11', '2024-04-09']], 1293))

@@ -48,8 +48,8 @@ class SheetTest(ToolTest):
         self.stopped('of 2 order(s)', 'sheet', 'j.txt', '--order', example('najran.json'), '--out', 's.html')
 
     def test_what_does_not_belong_together_is_refused(self):
-        self.stopped('no table of this order', 'sheet', example('najran.txt'), '--order', example('bahrain.json'), '--out', 's.html')
-        self.stopped('with 4 were named', 'sheet', example('najran.txt'), '--order', example('najran-city.json'), '--out', 's.html')
+        for name, said in (('bahrain.json', 'no table of this order'), ('najran-city.json', 'with 4 were named')):
+            self.stopped(said, 'sheet', example('najran.txt'), '--order', example(name), '--out', 's.html')
         self.stopped('give --order', 'sheet', example('najran.txt'), '--out', 's.html')
         self.stopped('order refused 2 missing from', 'sheet', example('najran.txt'), '--order', self.write('o.json', '{}'),
                      '--out', 's.html')
