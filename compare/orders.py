@@ -11,7 +11,6 @@ each status are printed last, to show what was met.
 import collections
 import json
 import math
-import random
 import sys
 
 from answers import answer, words_given

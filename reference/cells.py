@@ -115,24 +115,6 @@ def search(judge, k):
     return Harvest(r, [leaf for leaf in leaves if leaf[0].last > r], refuted, len(known), known)
 
 
-def search_whole_tree(judge, k):
-    """The unpruned tree, by the letter of its definition (for tests)."""
-    leaves = []
-
-    def visit(c):
-        verdict = judge.judge(k, c)
-        if verdict[0] != 'split':
-            leaves.append((c, verdict))
-        else:
-            for child in children(c):
-                visit(child)
-
-    visit(judge.root)
-    r = max((c.last for c, v in leaves if v[0] == 'refuted'), default=-1)
-    refuted = next(((c, v[1]) for c, v in leaves if v[0] == 'refuted' and c.last == r), None)
-    return r, leaves, refuted
-
-
 def entry_of(r, opens):
     """The entry from r and the Open cells (in tree order, with any rank)."""
     opens = [c for c in opens if c.last > r]

@@ -136,9 +136,3 @@ class Finder:
                 known = self.district.named(box, upper[1])
             self.found[key] = known
         return known[0]
-
-
-def strip_edges(district, south, i):
-    """The edges whose closed latitude range meets strip i of the root at south (place units)."""
-    low, high = south + i * 2 ** 23, south + (i + 1) * 2 ** 23
-    return [e for e in district.edges if min(e[1], e[3]) <= high and max(e[1], e[3]) >= low]

@@ -3,7 +3,7 @@
 The answer is (sin L, cos L, sin e, cos e, q)."""
 from fractions import Fraction
 
-from series import cosine, sine, sine_and_cosine
+from series import sine, sine_and_cosine
 
 
 def plus(a, b):

@@ -13,7 +13,6 @@ try:
     import matplotlib
     matplotlib.use('Agg')
     from matplotlib import dates, pyplot
-    from matplotlib.colors import BoundaryNorm, ListedColormap
     from matplotlib.patches import Patch, PathPatch
     from matplotlib.path import Path
 except ImportError as error:

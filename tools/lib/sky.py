@@ -2,7 +2,7 @@
 
 A minute k counts from 2000-01-01 12:00 Universal Time, longitudes and latitudes are degrees. `value` is above zero where the
 sun is on that side; `holds` is a column's condition."""
-from math import asin, cos, degrees, radians, sin, sqrt
+from math import asin, cos, radians, sin, sqrt
 
 ANGLES = {'mwl': (18, 17, None), 'isna': (15, 15, None), 'egypt': (19.5, 17.5, None), 'karachi': (18, 18, None),
           'makkah': (18.5, None, None), 'tehran': (17.7, 14, 4.5), 'jafari': (16, 14, 4)}
