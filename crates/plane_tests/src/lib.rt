@@ -3,4 +3,8 @@
 #![tactic(auto)]
 
 #[cfg(test)]
+mod cell_judge;
+#[cfg(test)]
+mod cells;
+#[cfg(test)]
 mod region;

@@ -1,16 +1,12 @@
-// Tests of the crates that search a judge's trees, a module a crate.
+// Tests of the crates that search a judge's trees: a module for each of them, under a name of its own.
 // Contract: none; the crate has tests alone.
 #![tactic(auto)]
 
 #[cfg(test)]
-mod bound_word;
-#[cfg(test)]
-mod covering;
-#[cfg(test)]
-mod covering_check;
-#[cfg(test)]
-mod days_sky;
-#[cfg(test)]
 mod judges;
 #[cfg(test)]
-mod steal_pool;
+mod searches;
+#[cfg(test)]
+mod several_days;
+#[cfg(test)]
+mod shared_ranks;

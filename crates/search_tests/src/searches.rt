@@ -83,7 +83,11 @@ fn every_search_finds_the_one_open_cell(rt: HostRuntime) -> Result<(), Fail> {
     finds_the_open_cell(&rt, &judge, &search_plain(rt.alloc(), &judge)?);
     finds_the_open_cell(&rt, &judge, &search(&rt, rt.alloc(), &judge, 1, &OpenGate)?);
     finds_the_open_cell(&rt, &judge, &search(&rt, rt.alloc(), &judge, 2, &OpenGate)?);
-    finds_the_open_cell(&rt, &judge, &search(&rt, rt.alloc(), &judge, 16, &OpenGate)?);
+    finds_the_open_cell(
+        &rt,
+        &judge,
+        &search(&rt, rt.alloc(), &judge, 16, &OpenGate)?,
+    );
     Ok(())
 }
 
@@ -102,9 +106,7 @@ fn has_entries_by_steps(rt: &impl Abort, judge: &Steps, harvest: &Harvest)
 }
 
 #[test]
-fn what_the_workers_find_is_put_together_problem_by_problem(
-    rt: HostRuntime,
-) -> Result<(), Fail> {
+fn what_the_workers_find_is_put_together_problem_by_problem(rt: HostRuntime) -> Result<(), Fail> {
     let judge = Steps {
         root: root_at(100_000, 0),
         point: corner(),
@@ -125,7 +127,11 @@ fn each_worker_passes_the_gate_for_its_part(rt: HostRuntime) -> Result<(), Fail>
     for (workers, begun) in [(1, 0b1), (2, 0b11), (3, 0b111), (16, 0b1010_1010_0101_0100)] {
         let gate = Counter::new();
         search(&rt, rt.alloc(), &judge, workers, &gate)?;
-        assert_eq!(rt; gate.begun.load(Ordering::SeqCst), begun, "of {workers} workers");
+        assert_eq!(rt;
+            gate.begun.load(Ordering::SeqCst),
+            begun,
+            "of {workers} workers"
+        );
     }
     Ok(())
 }

@@ -1,4 +1,4 @@
-use Rattle.std.proofs.Common.{FitsSigned, arith, rules}
+use Rattle.std.proofs.Common.{FitsSigned, arith}
 use Rattle.std.specs.Int.{w32}
 use Rattle.std.specs.Prelude.{pos}
 use Rattle.std.proofs.lemmas.Int.{ints, to_z-of_z}
@@ -6,10 +6,10 @@ use Rattle.method_table.specs.declared.method.Asr.TheVariants.{Standard}
 use Rattle.method_table.specs.declared.method.Method.TheVariants.{Mwl}
 use Rattle.cell_judge.specs.DayLaws.{IsDay}
 use Rattle.cell_judge.proofs.DayLaws.{days_are_in_limits}
-use Rattle.search_tests.proofs.days_sky.day_of.Goals as goal
+use Rattle.search_tests.proofs.several_days.day_of.Goals as goal
 
-pub invariant_of-result : goal.invariant_of-result
-invariant_of-result c =
+pub new-requires : goal.new-requires
+new-requires c =
     let day : FitsSigned w32 c.args.number = c.ranges.number in
     let is : IsDay c.args.number (pos 0) (pos 720) 0 = record {
       not_early = c.requires.not_early;
@@ -20,7 +20,4 @@ invariant_of-result c =
       noon_below_a_day = omega (arith, ints);
       not_high = omega arith;
     } in
-    record {
-      counted = search rules;
-      limits = days_are_in_limits Mwl Standard c.args.number (pos 0) (pos 720) 0 (pos 90) is c.problems-problems.result (simp to_z-of_z at c.problems-problems.ensures);
-    }
+    days_are_in_limits Mwl Standard c.args.number (pos 0) (pos 720) 0 (pos 90) is c.problems-problems.result (simp to_z-of_z at c.problems-problems.ensures)
