@@ -3,10 +3,14 @@
 #![tactic(auto)]
 
 #[cfg(test)]
-mod fixed_interval;
+mod altitudes;
 #[cfg(test)]
-mod method_table;
+mod shadows;
 #[cfg(test)]
-mod solar_terms;
+mod intervals;
 #[cfg(test)]
-mod trig_series;
+mod methods;
+#[cfg(test)]
+mod suns;
+#[cfg(test)]
+mod series;

@@ -3,8 +3,8 @@
 #![tactic(auto)]
 
 #[cfg(test)]
-mod cell_judge;
+mod skies;
 #[cfg(test)]
 mod cells;
 #[cfg(test)]
-mod region;
+mod districts;

@@ -3,6 +3,10 @@
 #![tactic(auto)]
 
 #[cfg(test)]
+mod coverings;
+#[cfg(test)]
+mod checked_lines;
+#[cfg(test)]
 mod judges;
 #[cfg(test)]
 mod searches;

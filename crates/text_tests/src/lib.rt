@@ -3,4 +3,12 @@
 #![tactic(auto)]
 
 #[cfg(test)]
-mod source_sink;
+mod json_texts;
+#[cfg(test)]
+mod order_lines;
+#[cfg(test)]
+mod orders;
+#[cfg(test)]
+mod streams;
+#[cfg(test)]
+mod dates;

@@ -2,7 +2,7 @@
 use Rattle.std.proofs.Common.{◌≡◌, ℕ, ◌*◌, ◌^◌, ◌<◌, ◌≤◌, leb-true, arith, mul-le-mul_right}
 use Rattle.std.specs.Int.{div_ceil}
 use Rattle.fixed_interval.proofs.Sizes.{div_ceil_covers}
-use Rattle.number_tests.proofs.fixed_interval.may_divide.Goals as goal
+use Rattle.number_tests.proofs.intervals.may_divide.Goals as goal
 
 within : (x n q : ℕ) → 0 < n → q ≡ div_ceil x n → q ≤ 2 ^ 71 → x ≤ 2 ^ 71 * n
 within x n q h e l = omega (arith, div_ceil_covers x n h, mul-le-mul_right n k)

@@ -1,5 +1,5 @@
 // What lines show, and why they show nothing.
-use crate::covering::settled;
+use crate::coverings::settled;
 use crate::judges::{Late, Sure, Threshold};
 use cell_split::{Entry, Judge, root_at};
 use covering::{cover_line, cover_line_1};
