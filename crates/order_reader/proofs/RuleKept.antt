@@ -33,6 +33,7 @@ use Rattle.order_reader.specs.declared.fault.OrderFault.{OrderFault}
 use Rattle.order_reader.specs.declared.fault.OrderFault.TheVariants.{Kind, Range, Geometry}
 use Rattle.region.specs.Faults.{first_fault}
 use Rattle.region.specs.Rings.{Polygon}
+use Rattle.region.proofs.Truth.{map_some}
 use Rattle.region.specs.declared.faults.RegionFault.{RegionFault}
 use Rattle.year_table.specs.Lines.{sun_word}
 use Rattle.year_table.specs.Rules.{is_rule}
@@ -50,10 +51,6 @@ or_ok None fault x e = absurd cc
 and_then_some : {A B : Type 0} (f : A → Option B) (o : Option A) (y : B) → option_and_then f o ≡ Some y → (x : A) × (o ≡ Some x) × (f x ≡ Some y)
 and_then_some f (Some x) y e = (x, refl, e)
 and_then_some f None y e = absurd cc
-
-map_some : {A B : Type 0} (f : A → B) (o : Option A) (y : B) → option_map f o ≡ Some y → (x : A) × (o ≡ Some x) × (f x ≡ y)
-map_some f (Some x) y e = (x, refl, cc)
-map_some f None y e = absurd cc
 
 optional_ok : {A : Type 0} (absent : A) (read : Tree → Result A OrderFault) (P : A → Type 0) → P absent → ((t : Tree) (x : A) → read t ≡ Ok x → P x) → (r : Result (Option Tree) OrderFault) (x : A) → (r >>= or_absent absent read) ≡ Ok x → P x
 optional_ok absent read P none some (Ok None) x e = (let same : absent ≡ x = cc in subst P same none)

@@ -13,6 +13,7 @@ use Rattle.jiff_tz.specs.PosixReader.{read_whole}
 use Rattle.region.specs.Extent.{is_far, is_wide, latitudes, longitudes, positions_of}
 use Rattle.region.specs.Faults.{first_fault, lacks_ring, ring_fault}
 use Rattle.region.specs.Rings.{Position, Ring, Polygon}
+use Rattle.region.proofs.Truth.{neither}
 use Rattle.region.specs.declared.faults.RegionFault.{RegionFault}
 use Rattle.region.specs.declared.faults.RegionFault.TheVariants.{TooFar, TooMany, TooWide, NoPolygon}
 use Rattle.year_table.specs.Rules.{is_plain, is_rule, is_rule_byte}
@@ -44,10 +45,6 @@ none_far polygons h =
     (after_cond (nat_lt 4096 (length (positions_of polygons))) TooMany many
     (after_cond (lacks_ring polygons) NoPolygon (cond (nat_lt 4096 (length (positions_of polygons))) (Some TooMany) many) h)))
 
-or_parts : (a b : Bool) → (a || b) ≡ false → (a ≡ false) × (b ≡ false)
-or_parts true b h = cc
-or_parts false b h = (refl, h)
-
 -- each of the longitude and the latitude is as far as a whole number may be
 pub record IsNear (p : Position) : Type 0 where
   pub longitude : unsigned_abs p.0 ≤ 10 ^ 15
@@ -55,7 +52,7 @@ pub record IsNear (p : Position) : Type 0 where
 
 near_unless_far : (p : Position) → is_far p ≡ false → IsNear p
 near_unless_far p h =
-    let both = or_parts (nat_lt 65_000_000 (unsigned_abs p.1)) (nat_lt 360_000_000 (unsigned_abs p.0)) h in
+    let both = neither (nat_lt 65_000_000 (unsigned_abs p.1)) (nat_lt 360_000_000 (unsigned_abs p.0)) h in
     let latitude : nat_lt 65_000_000 (unsigned_abs p.1) ≡ false = both.0 in
     let longitude : nat_lt 360_000_000 (unsigned_abs p.0) ≡ false = both.1 in
     record { longitude = grind (arith, nat_tests); latitude = grind (arith, nat_tests) }
@@ -63,19 +60,19 @@ near_unless_far p h =
 near_ring : (ring : Ring) → list_any is_far ring ≡ false → All IsNear ring
 near_ring [] h = All-nil IsNear
 near_ring (p ∷ ring) h =
-    let both = or_parts (is_far p) (list_any is_far ring) h in
+    let both = neither (is_far p) (list_any is_far ring) h in
     All-cons IsNear p ring (near_unless_far p both.0) (near_ring ring both.1)
 
 near_rings : (rings : Polygon) → list_any is_far (flat_map (λ ring. ring) rings) ≡ false → All (All IsNear) rings
 near_rings [] h = All-nil (All IsNear)
 near_rings (ring ∷ rings) h =
-    let both = or_parts _ _ (sym (list_any-append is_far ring (flat_map (λ r. r) rings)) ∙ h) in
+    let both = neither _ _ (sym (list_any-append is_far ring (flat_map (λ r. r) rings)) ∙ h) in
     All-cons (All IsNear) ring rings (near_ring ring both.0) (near_rings rings both.1)
 
 near_polygons : (polygons : List Polygon) → list_any is_far (positions_of polygons) ≡ false → All (All (All IsNear)) polygons
 near_polygons [] h = All-nil (All (All IsNear))
 near_polygons (rings ∷ polygons) h =
-    let both = or_parts _ _ (sym (list_any-append is_far (flat_map (λ r. r) rings) (positions_of polygons)) ∙ h) in
+    let both = neither _ _ (sym (list_any-append is_far (flat_map (λ r. r) rings) (positions_of polygons)) ∙ h) in
     All-cons (All (All IsNear)) rings polygons (near_rings rings both.0) (near_polygons polygons both.1)
 
 pub near_district : (polygons : List Polygon) → first_fault polygons ≡ None → All (All (All IsNear)) polygons
