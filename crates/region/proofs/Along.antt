@@ -13,7 +13,7 @@ use Rattle.region.specs.Plane.{Place, Segment, Box, is_on, crosses}
 use Rattle.region.specs.Rings.{Position, Ring, Polygon, edges_from, ring_edges, polygon_edges, xor}
 use Rattle.region.specs.Extent.{is_far, is_step, is_compact_from}
 use Rattle.region.specs.Named.{first_point}
-use Rattle.region.proofs.Truth.{and_left, and_right, not_false, neither}
+use Rattle.region.proofs.Truth.{or_assoc, and_left, and_right, not_false, neither}
 use Rattle.region.proofs.Odd.{odd_by, odd_by-append, xor_assoc}
 use Rattle.region.proofs.Wholly.{first_point-append}
 
@@ -99,10 +99,6 @@ short_next p all i h s =
 pub record RingsTouched (p : Place) (all left : Polygon) (on odd : Bool) : Type 0 where
   pub on_is : (on || list_any (is_on p) (polygon_edges left)) ≡ list_any (is_on p) (polygon_edges all)
   pub odd_is : xor odd (odd_by (crosses p) (polygon_edges left)) ≡ odd_by (crosses p) (polygon_edges all)
-
-or_assoc : (a b c : Bool) → ((a || b) || c) ≡ (a || (b || c))
-or_assoc true b c = refl
-or_assoc false b c = refl
 
 -- one more ring
 pub ring_touched : (p : Place) (all : Polygon) (ring : Ring) (left : Polygon) (on odd : Bool)

@@ -12,8 +12,8 @@ use Rattle.region.specs.Rings.{Polygon, polygon_edges, is_within, is_in_district
 use Rattle.region.specs.Named.{edge_point, first_point, corner, named}
 use Rattle.region.specs.Laws.{IsOrdered, misses_latitudes}
 use Rattle.region.specs.Views.{segment_of}
-use Rattle.region.specs.Strips.{StripView, IsStripOf, numbered, numbered_edges, reaches, top_of, strip_edges, NamesWithoutBeyond, is_in_some}
-use Rattle.region.proofs.Truth.{not_true, and_true, and_left, and_right, or_left, or_right, or_cases, is_lt, lt_true, lt_false}
+use Rattle.region.specs.Strips.{BandView, IsBandOf, numbered, numbered_edges, reaches, edges_between, NamesWithoutBeyond, is_in_some}
+use Rattle.region.proofs.Truth.{or_assoc, not_true, and_true, and_left, and_right, or_left, or_right, or_cases, is_lt, lt_true, lt_false}
 use Rattle.region.proofs.Odd.{odd_by, xor_assoc, xor_false, is_odd-count_by}
 use Rattle.region.proofs.Wholly.{off_apart, corner_ordered}
 use Rattle.region.proofs.Beyond.{beyond_latitudes, none_apart}
@@ -117,10 +117,6 @@ names_without_beyond box polygons keep ordered only =
 
 abbrev tagged : ℕ → List Segment → List (ℕ × Segment)
 tagged n edges = map (λ e. (n, e)) edges
-
-or_assoc : (a b c : Bool) → ((a || b) || c) ≡ (a || (b || c))
-or_assoc true b c = refl
-or_assoc false b c = refl
 
 or_false : (a : Bool) → a ≡ (a || false)
 or_false true = refl

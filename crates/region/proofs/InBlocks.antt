@@ -17,7 +17,7 @@ use Rattle.region.specs.Laws.{IsOrdered, misses_latitudes, misses_longitudes}
 use Rattle.region.specs.Strips.{StripView, IsStripOf, numbered, is_in_some, strip_edges, top_of}
 use Rattle.region.specs.Views.{segment_of}
 use Rattle.region.specs.Blocks.{IsHeld, AreBlocksOf, cut, first_in_blocks, is_in_some_block}
-use Rattle.region.proofs.Truth.{and_true, or_left, or_right, or_cases, is_lt, lt_true}
+use Rattle.region.proofs.Truth.{or_assoc, and_true, or_left, or_right, or_cases, is_lt, lt_true}
 use Rattle.region.proofs.Odd.{odd_by, is_odd-count_by}
 use Rattle.region.proofs.Wholly.{off_apart, corner_ordered, first_point-append}
 use Rattle.region.proofs.Beyond.{beyond_latitudes, names_none_beyond}
@@ -135,10 +135,6 @@ first_by_blocks box (b ∷ rest) edges h =
     ap (λ o. option_or (first_point box own) o) (first_by_blocks box rest (drop b.count edges) h.3)
     ∙ sym (first_point-append box own (map segment_of (drop b.count edges)))
     ∙ ap (first_point box) (parted b.count edges)
-
-or_assoc : (a b c : Bool) → ((a || b) || c) ≡ (a || (b || c))
-or_assoc true b c = refl
-or_assoc false b c = refl
 
 -- the edges of a block that isn't empty, and those behind it
 scan_block : (p : Place) (n m : ℕ) (odd : Bool) (e : Segment) (own : List Segment) (rest : List (ℕ × Segment))

@@ -54,6 +54,10 @@ pub or_right : (a b : Bool) → b ≡ true → (a || b) ≡ true
 or_right true b p = refl
 or_right false b p = p
 
+pub or_assoc : (a b c : Bool) → ((a || b) || c) ≡ (a || (b || c))
+or_assoc true b c = refl
+or_assoc false b c = refl
+
 pub or_cases : (a b : Bool) → (a || b) ≡ true → (a ≡ true) ⊎ (b ≡ true)
 or_cases true b h = inl refl
 or_cases false b h = inr h
