@@ -6,9 +6,9 @@ use borrow.Author.Differences.{up, down, same_in}
 use Rattle.fixed_interval.specs.Fraction.{Fraction, ◌≤ᶠ◌, over, negate, plus, times, floor_at, ceil_at}
 use Rattle.fixed_interval.specs.Enclosure.{Enclosure, IsOrdered, LiesIn}
 use Rattle.fixed_interval.proofs.Whole.{parts, div-parts}
-use Rattle.fixed_interval.proofs.FractionLaws.{≤ᶠ_refl, ≤ᶠ_trans, plus_mono, times_mono, least_right, least_mono, least_above, greatest_right, greatest_mono, greatest_below, floor_below, floor_mono, ceil_above, ceil_mono, over_mono}
+use Rattle.fixed_interval.proofs.FractionLaws.{≤ᶠ_refl, ≤ᶠ_trans, plus_mono, times_mono, least_right, least_mono, least_above, greatest_right, greatest_mono, greatest_below, floor_below, floor_greatest, floor_mono, ceil_above, ceil_least, ceil_mono, over_mono}
 use Rattle.fixed_interval.proofs.EnclosureLaws.{LiesIn_trans, hull_left, hull_right, hull_least, hull_ordered}
-use Rattle.trig_series.specs.Quarters.{eighth_turn, quarter_turn, first_quarter, last_quarter, turned_back, piece, hull_from, over_quarters}
+use Rattle.trig_series.specs.Quarters.{eighth_turn, quarter_turn, first_quarter, last_quarter, turned_back, piece, IsMet, hull_from, over_quarters}
 use Rattle.trig_series.proofs.QuarterLaws.{int_gap-is}
 
 part_positive : (n : ℕ) → pos 0 ≤ℤ (over (pos 1) n).top
@@ -68,6 +68,34 @@ seam_after a c h = record { crossed = core a.top a.bottom c h.crossed }
     core t b c h =
         let turned : neg_ℤ (pos quarter_turn *ℤ c) *ℤ pos b ≡ neg_ℤ (c *ℤ pos ((b * 1) * quarter_turn)) = same_in _ _ (simp parts (omega arith)) in
         rw turned (omega (arith, ints, h))
+
+-- and the other way round: a quarter that the range meets is one of those from the first to the last
+begins : (a : Fraction) (c : ℤ) → over (neg_ℤ (pos eighth_turn)) 1 ≤ᶠ turned_back c a → over c 1 ≤ᶠ times (plus a (over (pos eighth_turn) 1)) (over (pos 1) quarter_turn)
+unfolding over times plus turned_back
+begins a c h = record { crossed = core a.top a.bottom c h.crossed }
+  where
+    core : (t : ℤ) (b : ℕ) (c : ℤ) → (neg_ℤ (pos eighth_turn) *ℤ pos (b * 1)) ≤ℤ (((t *ℤ pos 1) +ℤ (neg_ℤ (pos quarter_turn *ℤ c) *ℤ pos b)) *ℤ pos 1) → (c *ℤ pos ((b * 1) * quarter_turn)) ≤ℤ ((((t *ℤ pos 1) +ℤ (pos eighth_turn *ℤ pos b)) *ℤ pos 1) *ℤ pos 1)
+    core t b c h =
+        let turned : neg_ℤ (pos quarter_turn *ℤ c) *ℤ pos b ≡ neg_ℤ (c *ℤ pos ((b * 1) * quarter_turn)) = same_in _ _ (simp parts (omega arith)) in
+        let s = rw turned at h in
+        omega (arith, ints, s)
+
+finishes : (a : Fraction) (c : ℤ) → turned_back c a ≤ᶠ over (pos eighth_turn) 1 → times (plus a (over (neg_ℤ (pos eighth_turn)) 1)) (over (pos 1) quarter_turn) ≤ᶠ over c 1
+unfolding over times plus turned_back
+finishes a c h = record { crossed = core a.top a.bottom c h.crossed }
+  where
+    core : (t : ℤ) (b : ℕ) (c : ℤ) → (((t *ℤ pos 1) +ℤ (neg_ℤ (pos quarter_turn *ℤ c) *ℤ pos b)) *ℤ pos 1) ≤ℤ (pos eighth_turn *ℤ pos (b * 1)) → ((((t *ℤ pos 1) +ℤ (neg_ℤ (pos eighth_turn) *ℤ pos b)) *ℤ pos 1) *ℤ pos 1) ≤ℤ (c *ℤ pos ((b * 1) * quarter_turn))
+    core t b c h =
+        let turned : neg_ℤ (pos quarter_turn *ℤ c) *ℤ pos b ≡ neg_ℤ (c *ℤ pos ((b * 1) * quarter_turn)) = same_in _ _ (simp parts (omega arith)) in
+        let s = rw turned at h in
+        omega (arith, ints, s)
+
+pub met_between : (range : Enclosure) (c : ℤ) → first_quarter range.lo ≤ℤ c → c ≤ℤ last_quarter range.hi → IsMet range c
+met_between range c h k = record { begins_in_time = seam_before range.hi c (begins_by range.hi c k); ends_in_time = seam_after range.lo c (ends_by range.lo c h) }
+
+pub between_met : (range : Enclosure) (c : ℤ) → IsMet range c → (first_quarter range.lo ≤ℤ c) × (c ≤ℤ last_quarter range.hi)
+unfolding first_quarter last_quarter
+between_met range c m = (ceil_least 1 c (times (plus range.lo (over (neg_ℤ (pos eighth_turn)) 1)) (over (pos 1) quarter_turn)) (lit≤ tt) (finishes range.lo c m.ends_in_time), floor_greatest 1 c (times (plus range.hi (over (pos eighth_turn) 1)) (over (pos 1) quarter_turn)) (lit≤ tt) (begins range.hi c m.begins_in_time))
 
 pub piece_ordered : (a : Enclosure) (c : ℤ) → IsOrdered a → first_quarter a.lo ≤ℤ c → c ≤ℤ last_quarter a.hi → IsOrdered (piece a c)
 unfolding piece

@@ -34,6 +34,13 @@ ends_in_time z c h =
     let le : neg_ℤ (int_div_euclid (pos eighth_turn -ℤ z) (pos quarter_turn)) ≤ℤ c = rw first_quarter-whole at h in
     omega (arith, ints, le, (div-parts (pos eighth_turn -ℤ z) quarter_turn (omega arith)).0)
 
+-- and no other quarter does
+pub last_no_earlier : (z c : ℤ) → (pos quarter_turn *ℤ c) ≤ℤ (z +ℤ pos eighth_turn) → c ≤ℤ last_quarter (over z 1)
+last_no_earlier z c h = rw (last_quarter-whole z) (omega (arith, ints, h, (div-parts (z +ℤ pos eighth_turn) quarter_turn (omega arith)).1))
+
+pub first_no_later : (z c : ℤ) → (z -ℤ pos eighth_turn) ≤ℤ (pos quarter_turn *ℤ c) → first_quarter (over z 1) ≤ℤ c
+first_no_later z c h = rw (first_quarter-whole z) (omega (arith, ints, h, (div-parts (pos eighth_turn -ℤ z) quarter_turn (omega arith)).1))
+
 -- a range in order meets a quarter
 pub first_before_last : (y z : ℤ) → y ≤ℤ z → first_quarter (over y 1) ≤ℤ last_quarter (over z 1)
 first_before_last y z h = rw (first_quarter-whole y, last_quarter-whole z) (omega (arith, ints, h, (div-parts (pos eighth_turn -ℤ y) quarter_turn (omega arith)), (div-parts (z +ℤ pos eighth_turn) quarter_turn (omega arith))))

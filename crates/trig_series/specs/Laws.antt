@@ -1,11 +1,12 @@
 -- The laws of pi, of the series, and of sine and cosine, which the sun and the values rest on.
-use Rattle.std.specs.Prelude.{ℕ, suc, ◌+◌, ◌*◌, ◌^◌, ◌<◌, ◌≤◌, pos, ◌+ℤ◌, ◌≤ℤ◌}
+use Rattle.std.specs.Prelude.{ℕ, suc, ◌↔◌, ◌+◌, ◌*◌, ◌^◌, ◌<◌, ◌≤◌, ℤ, pos, ◌+ℤ◌, ◌≤ℤ◌}
+use Rattle.fixed_interval.specs.Fraction.{over}
 use Rattle.fixed_interval.specs.Enclosure.{Enclosure, IsOrdered, LiesIn}
 use Rattle.fixed_interval.specs.Bound.{Bound, IsBounded}
 use Rattle.fixed_interval.specs.Grid.{Ends, Range, DEPTH, reach}
 use Rattle.fixed_interval.specs.Laws.{LiesOnGrid, LiesOnUnits, EndsLieIn, RangeLiesIn, AreOrdered}
 use Rattle.trig_series.specs.Pi.{pi, grid_pi}
-use Rattle.trig_series.specs.Quarters.{quarter_turn}
+use Rattle.trig_series.specs.Quarters.{quarter_turn, first_quarter, last_quarter, Meets, IsMet}
 use Rattle.trig_series.specs.Series.{sine_series, cosine_series, grid_sine_series, grid_cosine_series}
 use Rattle.trig_series.specs.Sine.{sine, cosine, grid_sine, grid_cosine}
 
@@ -45,6 +46,11 @@ pub record SinesNest : Type 0 where
   pub of_pi : (n : ℕ) → LiesIn (pi (suc n)) (pi n)
   pub of_sine : (n : ℕ) (a : Enclosure) → IsOrdered a → LiesIn (sine (suc n) a) (sine n a)
   pub of_cosine : (n : ℕ) (a : Enclosure) → IsOrdered a → LiesIn (cosine (suc n) a) (cosine n a)
+
+-- the quarters whose pieces are joined are those that have a point in common with the range
+pub record JoinsTheQuartersMet : Type 0 where
+  pub of_enclosure : (range : Enclosure) (c : ℤ) → ((first_quarter range.lo ≤ℤ c) × (c ≤ℤ last_quarter range.hi)) ↔ IsMet range c
+  pub of_range : (range : Range) (c : ℤ) → ((first_quarter (over range.lo 1) ≤ℤ c) × (c ≤ℤ last_quarter (over range.hi 1))) ↔ Meets range c
 
 -- 4/3 on the grid, rounded down
 abbrev pub sine_limit : ℕ

@@ -2,7 +2,7 @@
 -- Quarter c reaches from 90c - 45 to 90c + 45 degrees, both ends included, so the point on a seam belongs to two quarters.
 use Rattle.std.specs.Prelude.{ℕ, zero, suc, ℤ, pos, neg_ℤ, ◌+ℤ◌, ◌-ℤ◌, ◌*ℤ◌, ◌≤ℤ◌}
 use Rattle.std.specs.Int.{int_min, int_max, int_gap}
-use Rattle.fixed_interval.specs.Fraction.{Fraction, over, plus, times, least, greatest, floor_at, ceil_at}
+use Rattle.fixed_interval.specs.Fraction.{Fraction, ◌≤ᶠ◌, over, plus, times, least, greatest, floor_at, ceil_at}
 use Rattle.fixed_interval.specs.Enclosure.{Enclosure, hull}
 use Rattle.fixed_interval.specs.Grid.{Ends, Range, grid_hull}
 
@@ -34,6 +34,11 @@ piece range c = record {
   lo = greatest (turned_back c range.lo) (over (neg_ℤ (pos eighth_turn)) 1);
   hi = least (turned_back c range.hi) (over (pos eighth_turn) 1);
 }
+
+-- quarter c and the range have a point in common
+pub record IsMet (range : Enclosure) (c : ℤ) : Type 0 where
+  pub begins_in_time : over (neg_ℤ (pos eighth_turn)) 1 ≤ᶠ turned_back c range.hi
+  pub ends_in_time : turned_back c range.lo ≤ᶠ over (pos eighth_turn) 1
 
 -- the hull of what f gives at the whole numbers from c to c + n
 unfoldable pub hull_from : (ℤ → Enclosure) → ℤ → ℕ → Enclosure

@@ -1,6 +1,6 @@
 // The laws of pi, sine and cosine. Each is the contract of a function that does nothing.
 
-ghost use Rattle.trig_series.specs.Laws.{SinesKeepLiesIn, GridSinesKeepLiesIn, GridSinesHoldExact, SinesKeepOrder, SinesNest, SinesAreBounded};
+ghost use Rattle.trig_series.specs.Laws.{SinesKeepLiesIn, GridSinesKeepLiesIn, GridSinesHoldExact, SinesKeepOrder, SinesNest, SinesAreBounded, JoinsTheQuartersMet};
 
 /// What lies in a range has its sine in the sine of the range, exact.
 pub fn sines_are_monotone()
@@ -30,4 +30,9 @@ pub fn sines_nest()
 /// No sine reaches past 4/3, and a narrow range has a narrow sine, across the seams too.
 pub fn sines_are_bounded()
     ensures { SinesAreBounded }
+{}
+
+/// A sine is the hull over exactly the quarters that have a point in common with the range, exact and on the grid.
+pub fn joined_quarters_are_those_met()
+    ensures { JoinsTheQuartersMet }
 {}

@@ -15,8 +15,8 @@ ghost use Rattle.std.specs.Prelude.{◌≡◌, ◌^◌, ◌≤◌, ◌≤ℤ◌,
 
 pub use by_sign::SineAndCosine;
 pub use laws::{
-    grid_sines_are_monotone, grid_sines_hold_exact, sines_are_bounded, sines_are_monotone,
-    sines_are_ordered, sines_nest,
+    grid_sines_are_monotone, grid_sines_hold_exact, joined_quarters_are_those_met,
+    sines_are_bounded, sines_are_monotone, sines_are_ordered, sines_nest,
 };
 pub use quarters::{cosine, sine, sine_and_cosine};
 pub use series::pi;
