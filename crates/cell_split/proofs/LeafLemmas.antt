@@ -1,22 +1,23 @@
 -- The leaves of a tree: where they lie, that they are apart, and that they are the tree's.
-use Rattle.std.proofs.Common.{◌≡◌, ℕ, zero, suc, ◌^◌, ◌<◌, ◌≤◌, Bool, true, false, List, [], ◌∷◌, inl, refl, sym, ◌∙◌, subst, arith}
-use Rattle.std.specs.Prelude.{◌≢◌, Contains, flat_map}
+use Rattle.std.proofs.Common.{◌≡◌, ℕ, zero, suc, ◌^◌, ◌<◌, ◌≤◌, Bool, true, false, List, [], ◌∷◌, take, get_or, inl, refl, sym, ◌∙◌, subst, arith}
+use Rattle.std.specs.Prelude.{◌≢◌, All, Contains, flat_map}
 use Rattle.std.proofs.Math.Nat.{one-le-pow}
 use Rattle.std.proofs.lemmas.Bool.{false≢true}
 use Rattle.std.proofs.lemmas.Int.{ints}
 use Rattle.std.proofs.lemmas.List.Elements.{All-contains, All-from_recursion}
 use Rattle.region.specs.Plane.{Place}
 use Rattle.cell_split.specs.declared.cell.Cell.{Cell}
+use Rattle.cell_split.specs.declared.cell.Children.{Children}
 use Rattle.cell_split.specs.declared.cell.Task.{Task}
 use Rattle.cell_split.specs.declared.verdict.Leaf.{Leaf}
 use Rattle.cell_split.specs.Cells.{IsCellOf, IsFormed, LiesIn, is_smallest}
 use Rattle.cell_split.specs.Judges.{Content, IsLawful, IsTask}
 use Rattle.cell_split.specs.Laws.{AreApart, Covers, IsChildOf, earlier, east, later, north, south, west}
-use Rattle.cell_split.specs.Split.{children_of}
+use Rattle.cell_split.specs.Split.{children_of, split}
 use Rattle.cell_split.specs.Tree.{InTree, IsLeafOf, below, child_tasks, leaf_of, leaves, levels, root_task, task_of, top}
 use Rattle.cell_split.specs.Verdicts.{is_split}
 use Rattle.cell_split.proofs.Every.{Contains-from_somewhere, Every, Every-both, Contains-map, Every-all, Every-contained, Every-flat_map, Every-map, Every-weaker, Pairs, Pairs-flat_map, Pairs-weaker, Somewhere, Somewhere-flat_map, Somewhere-same, Somewhere-weaker, by_test, flat_map-map, somewhere_from_Contains}
-use Rattle.cell_split.proofs.SplitLemmas.{IsPart, LiesIn_refl, LiesIn_trans, children_apart, children_cover, children_parts, levels_fall}
+use Rattle.cell_split.proofs.SplitLemmas.{IsPart, LiesIn_refl, LiesIn_trans, children_apart, children_cover, children_parts, levels_fall, quartered}
 use Rattle.cell_split.proofs.TreeLemmas.{leaves-step}
 
 -- the children of a cell of a root
@@ -173,3 +174,13 @@ root_in_itself c law =
 
 pub root_is_task : (c : Content) → IsLawful c → (problem : ℕ) → problem < c.problems → IsTask c (root_task c problem)
 root_is_task c law problem known = record { known = known; cell = root_in_itself c law }
+
+-- a quarter of a task is a task
+pub quarter_is_task : (c : Content) (t : Task) (s : Children) → IsTask c t → s ≡ split t.cell → (split t.cell).count ≡ 4
+    → (i : ℕ) (d : Cell) → i < 4 → IsTask c (task_of t.problem (get_or s.cells i d))
+quarter_is_task c t s is same four i d inside =
+    let four' = quartered t.cell four in
+    let P : Children → Type 0 = λ u. IsTask c (task_of t.problem (get_or u.cells i d)) in
+    let Q : Children → Type 0 = λ u. All (IsChildOf c.root t.cell) (take u.count u.cells) in
+    let child = subst Q four' (All-from_recursion (IsChildOf c.root t.cell) (children_of t.cell) (children_are c.root t.cell is.cell)) i d inside in
+    subst P (sym (same ∙ four')) (record { known = is.known; cell = child.is_cell })

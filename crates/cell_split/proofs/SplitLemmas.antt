@@ -162,3 +162,11 @@ children_cover c f many p rank h =
     ])
     (λ e k. quarters_cover c p rank (large_size c k) h)
     (λ e k. absurd (false≢true (sym many ∙ smallest_is c f e k)))
+
+-- a cell that has four children is divided in place
+pub quartered : (c : Cell) → (split c).count ≡ 4 → split c ≡ quarters c
+quartered c =
+    by_split (λ s. s.count ≡ 4 → s ≡ quarters c) c
+    (λ e h. absurd (omega (arith, h)))
+    (λ e k h. refl)
+    (λ e k h. absurd (omega (arith, h)))

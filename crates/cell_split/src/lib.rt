@@ -9,7 +9,7 @@ mod split;
 mod verdict;
 
 pub use cell::{Cell, Children, Task, is_smallest, key, rect_of, root_at, within};
-pub use judge::Judge;
+pub use judge::{Judge, Judged};
 pub use laws::{
     children_are_apart, children_cover_their_parent, children_lie_in_their_parent,
     judges_of_lawful_ones_are_lawful, leaves_are_apart, leaves_are_the_tree,
