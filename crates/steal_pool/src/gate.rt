@@ -1,7 +1,7 @@
 // What each worker passes before it judges a task.
 ghost use Rattle.std.specs.Prelude.{◌≡◌};
 
-use cell_split::{Cell, Judge, Task, Verdict};
+use cell_split::{Cell, Judge, Judged, Task, Verdict};
 use std::sync::atomic::{AtomicU64, Ordering};
 
 /// Called by each worker before it judges its task number `turn`, from 0 on. No clause rests on it.
@@ -37,6 +37,12 @@ impl<'a, J: Judge, G: Gate> Gated<'a, J, G> {
             turn: AtomicU64::new(0),
         }
     }
+
+    // calls the gate before the next task
+    fn pass(&self) {
+        let turn = self.turn.fetch_add(1, Ordering::SeqCst);
+        self.gate.before(self.worker, turn);
+    }
 }
 
 impl<J: Judge, G: Gate> Judge for Gated<'_, J, G> {
@@ -53,8 +59,14 @@ impl<J: Judge, G: Gate> Judge for Gated<'_, J, G> {
     }
 
     fn judge(&self, t: Task) -> Verdict {
-        let turn = self.turn.fetch_add(1, Ordering::SeqCst);
-        self.gate.before(self.worker, turn);
+        self.pass();
         self.judge.judge(t)
+    }
+
+    fn judge_quarters(&self, t: Task) -> [Judged; 4] {
+        for _ in 0..4u32 {
+            self.pass();
+        }
+        self.judge.judge_quarters(t)
     }
 }
