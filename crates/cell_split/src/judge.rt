@@ -53,10 +53,22 @@ pub trait Judge {
     {
         let cells = children(&t.cell).cells;
         [
-            Judged::without_hint(self.judge(Task { cell: cells[0], ..t })),
-            Judged::without_hint(self.judge(Task { cell: cells[1], ..t })),
-            Judged::without_hint(self.judge(Task { cell: cells[2], ..t })),
-            Judged::without_hint(self.judge(Task { cell: cells[3], ..t })),
+            Judged::without_hint(self.judge(Task {
+                cell: cells[0],
+                ..t
+            })),
+            Judged::without_hint(self.judge(Task {
+                cell: cells[1],
+                ..t
+            })),
+            Judged::without_hint(self.judge(Task {
+                cell: cells[2],
+                ..t
+            })),
+            Judged::without_hint(self.judge(Task {
+                cell: cells[3],
+                ..t
+            })),
         ]
     }
 
