@@ -5,12 +5,13 @@ import subprocess
 
 from outcome import TOP, Fault
 
-OWN = os.path.join(TOP, 'timetable')
+HERE = os.path.join(TOP, 'timetable')
+OWN = shlex.quote(HERE) if os.access(HERE, os.X_OK) and os.path.isfile(HERE) else 'timetable'
 
 
 def add_option(parser):
-    parser.add_argument('--program', default=os.environ.get('TIMETABLE', shlex.quote(OWN)), metavar='COMMAND',
-                        help='the program; else $TIMETABLE, else the one of this folder')
+    parser.add_argument('--program', default=os.environ.get('TIMETABLE', OWN), metavar='COMMAND',
+                        help='the program; else $TIMETABLE, else the one of this repository, else the one installed')
 
 
 def answer(command, words, text=b''):

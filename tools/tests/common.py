@@ -12,9 +12,9 @@ TESTS = os.path.dirname(os.path.abspath(__file__))
 TOOLS = os.path.dirname(TESTS)
 TOP = os.path.dirname(TOOLS)
 DATA = os.path.join(TESTS, 'data')
-BUILT = os.path.join(TOP, 'crates/timetable_cli/out/timetable_cli')
+BUILT = [os.path.join(TOP, name) for name in ('built/timetable', 'crates/timetable_cli/out/timetable_cli')]
 REFERENCE = 'python3 ' + shlex.quote(os.path.join(TOP, 'reference/timetable.py'))
-PROGRAM = os.environ.get('TIMETABLE') or (shlex.quote(BUILT) if os.access(BUILT, os.X_OK) else REFERENCE)
+PROGRAM = os.environ.get('TIMETABLE') or next((shlex.quote(path) for path in BUILT if os.access(path, os.X_OK)), REFERENCE)
 os.environ['TIMETABLE'] = PROGRAM
 SECONDS = 300
 

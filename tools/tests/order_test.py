@@ -14,8 +14,8 @@ import orders
 from common import PROGRAM, SECONDS, TOP, ToolTest, data, example, needs_zones, read
 from outcome import Fault
 
-sys.path.append(os.path.join(TOP, 'bench'))
-SPEC = importlib.util.spec_from_file_location('drawn', os.path.join(TOP, 'bench/orders.py'))
+sys.path.append(os.path.join(TOP, 'compare'))
+SPEC = importlib.util.spec_from_file_location('drawn', os.path.join(TOP, 'compare/orders.py'))
 drawn = importlib.util.module_from_spec(SPEC)
 SPEC.loader.exec_module(drawn)
 

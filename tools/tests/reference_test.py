@@ -1,4 +1,4 @@
-"""The reference program: the example tables, a covering and its check, and the comparisons of bench/ in small."""
+"""The reference program: the example tables, a covering and its check, and the comparisons of compare/ in small."""
 import os
 import shlex
 import subprocess
@@ -25,7 +25,7 @@ class ReferenceTest(ToolTest):
     @unittest.skipIf(PROGRAM == REFERENCE, 'the program is not built: it is not compared with the reference')
     def test_the_program_answers_alike(self):
         for script, count in (('orders.py', '25'), ('sun_lines.py', '25')):
-            run = subprocess.run([sys.executable, os.path.join(TOP, 'bench', script), count, PROGRAM], capture_output=True,
+            run = subprocess.run([sys.executable, os.path.join(TOP, 'compare', script), count, PROGRAM], capture_output=True,
                                  text=True, timeout=SECONDS)
             self.assertEqual(run.returncode, 0, run.stdout[-2000:] + run.stderr[-2000:])
             self.assertIn(' 0 different\n', run.stdout)
