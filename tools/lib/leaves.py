@@ -34,7 +34,7 @@ def row(day, with_weekday):
 
 def month_table(days, names, with_weekday):
     first = days[0].date
-    heads = ''.join(f'<th>{escape(name)}</th>' for name in names)
+    heads = ''.join(f'<th dir="auto">{escape(name)}</th>' for name in names)
     rows = '\n'.join(row(day, with_weekday) for day in days)
     return (f'<table><caption>{MONTHS[first.month - 1]} {first.year}</caption>\n'
             f'<thead><tr><th class="day"></th>{heads}</tr></thead>\n<tbody>\n{rows}\n</tbody></table>')
@@ -77,12 +77,12 @@ def year_sheet(table, title, under, names, hashes):
     blocks += ['<div class="month"></div>'] * (-len(blocks) % wide)
     kind = 'row narrow' if wide > 6 else 'row'
     rows = '\n'.join(f'<div class="{kind}">\n%s\n</div>' % '\n'.join(blocks[i:i + wide]) for i in range(0, len(blocks), wide))
-    body = (f'<section class="year"><h1>{escape(title)}</h1><p class="under">{escape(under)}</p>\n'
+    body = (f'<section class="year"><h1 dir="auto">{escape(title)}</h1><p class="under">{escape(under)}</p>\n'
             f'{rows}\n{footer(table, table.days, hashes)}</section>')
     return page(title, body)
 
 
 def month_sheets(table, title, under, names, hashes):
-    sections = [f'<section class="months"><h1>{escape(title)}</h1><p class="under">{escape(under)}</p>\n'
+    sections = [f'<section class="months"><h1 dir="auto">{escape(title)}</h1><p class="under">{escape(under)}</p>\n'
                 f'{month_table(days, names, True)}\n{footer(table, days, hashes)}</section>' for days in months_of(table)]
     return page(title, '\n'.join(sections))

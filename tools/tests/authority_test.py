@@ -1,4 +1,4 @@
-"""docs/authority.md, followed from its first line: each command in order, each output as the page has it."""
+"""docs/authority.md and docs/many.md, followed from their first lines: each command in order, each output as the page has it."""
 import os
 import re
 import subprocess
@@ -7,6 +7,7 @@ import unittest
 from common import PROGRAM, REFERENCE, SECONDS, TOP, ToolTest, needs_command, needs_module, needs_zones, read
 
 PAGE = os.path.join(TOP, 'docs', 'authority.md')
+MANY = os.path.join(TOP, 'docs', 'many.md')
 
 
 def commands(page):
@@ -38,13 +39,19 @@ class AuthorityTest(ToolTest):
                              cwd=self.folder, timeout=SECONDS, text=True)
         return run.stdout.replace(self.folder, '.')
 
-    def test_each_command_prints_what_the_page_says(self):
+    def follow(self, page, least):
         self.clone()
-        known = commands(read(PAGE))
-        self.assertGreater(len(known), 15)
+        known = commands(read(page))
+        self.assertGreaterEqual(len(known), least)
         for command, output in known:
             with self.subTest(command):
                 self.assertEqual(self.answer(command), output)
+
+    def test_each_command_of_the_page_on_many_orders(self):
+        self.follow(MANY, 5)
+
+    def test_each_command_of_the_page_prints_what_it_says(self):
+        self.follow(PAGE, 15)
         for name in ('najran.html', 'najran-wall.pdf', 'najran-months.pdf'):
             self.assertGreater(os.path.getsize(self.path(name)), 10_000)
 

@@ -1,4 +1,5 @@
 """Borders out of real files, and the check by whole numbers."""
+import collections
 import glob
 import gzip
 import json
@@ -43,6 +44,11 @@ class CheckTest(ToolTest):
             with self.subTest(what):
                 self.assertEqual(self.lost(real, new) is None, holds)
 
+    def test_a_hole_where_two_polygons_overlap_is_found(self):
+        real = [[square(0, 0, 60, 60)], [square(40, 0, 100, 60)]]
+        self.assertIsNone(self.lost(real, [[square(-1, -1, 101, 61)]]))
+        self.assertIsNotNone(self.lost(real, [[square(-1, -1, 101, 61), square(45, 10, 55, 20)]]))
+
     def test_parts_are_asked_for_their_box_alone(self):
         real = [[square(0, 0, 100, 10)]]
         self.assertIsNone(self.lost(real, [[square(-1, -1, 60, 11)]], (0, 0, 50, 10)))
@@ -51,21 +57,42 @@ class CheckTest(ToolTest):
         for new in ([square(20, 20, 30, 30)], [square(-5, -5, 5, 5), square(-2, -2, 2, 2)]):
             self.assertIsNotNone(self.lost([[square(-90, -90, 90, 90)]], [new], (-4, -4, 4, 4)))
 
-    def test_random_small_borders_agree_with_every_place_of_a_net(self):
+    def test_random_borders_that_are_accepted_lose_no_place(self):
         draw = random.Random(1)
-        shown = 0
-        for _ in range(3000):
-            real, new = ([[self.ring(draw, draw.choice([3, 4, 6]), size)] for _ in range(draw.choice([1, 2]))] for size in (6, 9))
-            first, second = plane.Region(real), plane.Region(new)
-            if self.lost(real, new) is None:
-                shown += 1
-                net = [(x, y, 3) for x in range(-30, 31) for y in range(-30, 31)]
-                self.assertFalse([p for p in net if first.holds(p) and not second.holds(p)], (real, new))
-        self.assertGreater(shown, 5)
+        accepted = collections.Counter()
+        for _ in range(12_000):
+            real = [[self.ring(draw, draw.choice([3, 4]), 4)] for _ in range(draw.choice([1, 1, 2]))]
+            new = [[self.dented(draw)] + [self.ring(draw, 3, 6)] * draw.choice([0, 0, 1])]
+            if draw.random() < 0.2:
+                new = [[self.dented(draw)], [self.dented(draw)]]
+            west, south = draw.randint(-4, 2), draw.randint(-4, 2)
+            box = draw.choice([geojson.box(real), (west, south, west + draw.randint(1, 3), south + draw.randint(1, 3))])
+            if self.lost(real, new, box) is None:
+                accepted[len(real), len(new), len(new[0])] += 1
+                inner, outer = plane.Region(real), plane.Region(new)
+                for place in self.places(draw, real, box):
+                    self.assertTrue(outer.holds(place) or not inner.holds(place), (real, new, box, place))
+        self.assertGreater(min(accepted[key] for key in ((1, 1, 1), (1, 1, 2), (2, 1, 1), (1, 2, 1))), 20, accepted)
 
     def ring(self, draw, count, size):
         points = [(draw.randint(-size, size), draw.randint(-size, size)) for _ in range(count)]
         return points + points[:1]
+
+    def dented(self, draw):
+        """A ring round the middle with one corner that lies anywhere."""
+        corners = [(-6, -6), (0, -6), (6, -6), (6, 0), (6, 6), (0, 6), (-6, 6), (-6, 0)]
+        corners[draw.randrange(8)] = (draw.randint(-6, 6), draw.randint(-6, 6))
+        if draw.random() < 0.5:
+            corners.reverse()
+        return corners + corners[:1]
+
+    def places(self, draw, polygons, box):
+        """Places in a box: on the edges of polygons, and anywhere."""
+        west, south, east, north = (8 * side for side in box)
+        found = [(ax * (8 - i) + bx * i, ay * (8 - i) + by * i, 8) for polygon in polygons
+                 for ax, ay, bx, by in plane.edges_of(polygon) for i in range(9)]
+        found += [(draw.randint(west, east), draw.randint(south, north), 8) for _ in range(40)]
+        return [(a, b, d) for a, b, d in found if west <= a <= east and south <= b <= north]
 
 
 @GDAL
