@@ -19,4 +19,3 @@ pub use fault::JsonFault;
 pub use laws::{every_text_is_read, readings_agree};
 pub use reader::read;
 pub use value::{Json, JsonList, JsonTable, JsonText};
-

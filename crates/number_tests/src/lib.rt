@@ -5,12 +5,12 @@
 #[cfg(test)]
 mod altitudes;
 #[cfg(test)]
-mod shadows;
-#[cfg(test)]
 mod intervals;
 #[cfg(test)]
 mod methods;
 #[cfg(test)]
-mod suns;
-#[cfg(test)]
 mod series;
+#[cfg(test)]
+mod shadows;
+#[cfg(test)]
+mod suns;

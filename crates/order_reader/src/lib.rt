@@ -30,4 +30,3 @@ pub use offsets::Offsets;
 pub use order::Order;
 pub use ranges::Ranges;
 pub use read::read_order;
-

@@ -3,8 +3,8 @@
 #![tactic(auto)]
 
 #[cfg(test)]
-mod skies;
-#[cfg(test)]
 mod cells;
 #[cfg(test)]
 mod districts;
+#[cfg(test)]
+mod skies;

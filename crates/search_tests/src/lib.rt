@@ -3,9 +3,9 @@
 #![tactic(auto)]
 
 #[cfg(test)]
-mod coverings;
-#[cfg(test)]
 mod checked_lines;
+#[cfg(test)]
+mod coverings;
 #[cfg(test)]
 mod judges;
 #[cfg(test)]

@@ -3,6 +3,8 @@
 #![tactic(auto)]
 
 #[cfg(test)]
+mod dates;
+#[cfg(test)]
 mod json_texts;
 #[cfg(test)]
 mod order_lines;
@@ -10,5 +12,3 @@ mod order_lines;
 mod orders;
 #[cfg(test)]
 mod streams;
-#[cfg(test)]
-mod dates;

@@ -13,4 +13,3 @@ pub use entry::{date_text, day_line, entry_text, open_line};
 pub use head::{SunChoice, end_line, sun_word, table_head};
 pub use offset::day_offset;
 pub use zone::{Rule, RuleFault, Zone, read_rule};
-
