@@ -1,10 +1,10 @@
 -- What bytes are as an input, and what was read of them.
-use Rattle.std.proofs.Common.{◌≡◌, ℕ, ◌+◌, ◌<◌, ◌≤◌, ◌⊎◌, inl, inr, List, [], length, Bool, true, false, Option, Some, None, Ok, Err, Result, refl, sym, ap, subst, arith}
+use Rattle.std.proofs.Common.{◌≡◌, ℕ, ◌+◌, ◌<◌, ◌≤◌, ◌⊎◌, inl, inr, List, [], length, Bool, true, false, Option, Some, None, Ok, Err, Result, refl, ap, arith}
 use Rattle.std.specs.Prelude.{nat_le, replicate}
 use Rattle.std.proofs.lemmas.Bool.{leb-true, leb-false}
 use Rattle.std.proofs.lemmas.List.{length-replicate}
-use Rattle.command_input.specs.Input.{EveryTextIsAnInput, Given, Input, InputsAgree, IsGiven, IsSpelled, IsSpelledBy, Wanted, an_order, limit_of, nothing, order, read, too_long, unread}
-use Rattle.command_input.specs.Refusals.{long_line, refusal_line}
+use Rattle.command_input.specs.Input.{EveryTextIsAnInput, Given, InputsAgree, IsGiven, IsSpelled, IsSpelledBy, an_order, limit_of, nothing, order, read, too_long, unread}
+use Rattle.command_input.specs.Refusals.{long_line}
 use Rattle.command_input.specs.Taken.{IsReadAs, IsRefusalOf}
 use Rattle.order_reader.proofs.ReadLaws.{every_text_is_read_or_refused, order_readings_agree}
 use Rattle.order_reader.specs.Asked.{Asked, asked_of}

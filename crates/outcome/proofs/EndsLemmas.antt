@@ -1,9 +1,9 @@
 -- What is known of a run by how it ended.
-use Rattle.std.proofs.Common.{◌≡◌, ℕ, zero, suc, List, [], Bool, true, false, cond, ◌⊎◌, inl, inr, refl, sym, ◌∙◌, arith, take}
+use Rattle.std.proofs.Common.{◌≡◌, ℕ, zero, suc, [], Bool, true, false, cond, ◌⊎◌, inl, inr, refl, arith}
 use Rattle.std.specs.Prelude.{◌≢◌, ◌==◌}
 use Rattle.std.proofs.lemmas.Bool.{eqb-true}
 use Rattle.source_sink.specs.Outside.{Rose, Adds, AddsPart, AddsSome}
-use Rattle.outcome.specs.Answer.{Answer, finished, refusal, status_of_count, usage_answer}
+use Rattle.outcome.specs.Answer.{Answer, status_of_count}
 use Rattle.outcome.specs.Ends.{EndsAs}
 use Rattle.outcome.specs.Streams.{Stream}
 use Rattle.outcome.specs.declared.status.Status.{Status}

@@ -3,3 +3,4 @@ pub mod DayLemmas
 pub mod AnswerLemmas
 pub mod LawLemmas
 pub mod MemoryLemmas
+pub mod ExampleLemmas

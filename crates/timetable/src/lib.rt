@@ -2,7 +2,7 @@
 // Contract: the run ended as a stated function of the words and the input says, on every stream.
 #![tactic(auto)]
 
-mod day;
+pub mod examples;
 pub mod laws;
 mod memory;
 mod orders;

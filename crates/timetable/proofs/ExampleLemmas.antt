@@ -1,0 +1,43 @@
+-- What the words of examples ask for, and what the laws say of them.
+use Rattle.std.proofs.Common.{◌≡◌, ℕ, ◌<◌, ◌⊎◌, List, [], ◌∷◌, codes, length, refl, subst}
+use Rattle.std.specs.Prelude.{ℤ, pos}
+use Rattle.command_input.specs.Input.{an_order, limit_of, order, too_long, unread}
+use Rattle.outcome.specs.Streams.{Streams}
+use Rattle.outcome.specs.declared.status.Status.{Status}
+use Rattle.outcome.specs.declared.status.Status.TheVariants.{Done, OrderRefused, ReadFault, NoMemory}
+use Rattle.outcome.specs.declared.status.Status.TheVariants.{Open as StatusOpen}
+use Rattle.sun_verdict.specs.Decimals.{digits_in, millionths_in}
+use Rattle.sun_verdict.specs.Request.{angle_in, coordinate_in, minute_in, question_in, request_in}
+use Rattle.sun_verdict.specs.declared.request.Question.TheVariants.{Altitude}
+use Rattle.sun_verdict.specs.declared.request.Request.{Request}
+use Rattle.timetable.specs.Memory.{KeepsTheLaws}
+use Rattle.timetable.specs.Words.{command_of, sun_command}
+use Rattle.timetable.specs.declared.words.Command.{Command}
+use Rattle.timetable.specs.declared.words.Command.TheVariants.{Unknown, Sun, Order}
+
+pub no_words_are_wrong : (words : List (List ℕ)) → words ≡ [] → command_of words ≡ Unknown
+unfolding command_of
+no_words_are_wrong words is = rw is refl
+
+pub order_alone : (word : List ℕ) → word ≡ codes "order" → command_of (word ∷ []) ≡ Order
+unfolding command_of
+order_alone word is = rw is refl
+
+pub first_request : Request
+first_request = record { minute = pos 0; lon = pos 0; lat = pos 0; question = Altitude (pos 0) }
+
+pub sun_with_four : (name minute lon lat what : List ℕ) → name ≡ codes "sun" → minute ≡ codes "0" → lon ≡ codes "0" → lat ≡ codes "0" →
+    what ≡ codes "0" → command_of (name ∷ minute ∷ lon ∷ lat ∷ what ∷ []) ≡ Sun first_request
+unfolding command_of sun_command request_in minute_in coordinate_in question_in angle_in millionths_in digits_in first_request
+sun_with_four name minute lon lat what is_name is_minute is_lon is_lat is_what = rw (is_name, is_minute, is_lon, is_lat, is_what) refl
+
+module _ (command : Command) (bytes : List ℕ) (status : Status) (before after : Streams) (keeps : KeepsTheLaws command bytes status before after) where
+  pub long_is_refused : command ≡ Order → limit_of an_order < length bytes → (status ≡ OrderRefused) ⊎ (status ≡ ReadFault) ⊎ (status ≡ NoMemory)
+  long_is_refused is long =
+      let k = subst (λ (it : Command). KeepsTheLaws it bytes status before after) is keeps in
+      k.wrong_order refl (order too_long) long tt
+
+  pub sun_is_answered : (r : Request) → command ≡ Sun r → (status ≡ Done) ⊎ (status ≡ StatusOpen) ⊎ (status ≡ NoMemory)
+  sun_is_answered r is =
+      let k = subst (λ (it : Command). KeepsTheLaws it bytes status before after) is keeps in
+      k.answered (λ same. cc) unread tt (λ reads. absurd cc)
