@@ -1,11 +1,11 @@
 -- The first open cell of the latest open rank, found cell by cell.
-use Rattle.std.proofs.Common.{◌≡◌, ℕ, zero, suc, ◌+◌, ◌<◌, ◌≤◌, Bool, true, false, cond, eqb, ltb, List, [], ◌∷◌, find, max, Option, Some, None, ◌⊎◌, inl, inr, refl, sym, ap, ◌∙◌, subst, arith}
+use Rattle.std.proofs.Common.{◌≡◌, ℕ, zero, suc, ◌<◌, ◌≤◌, Bool, true, false, cond, eqb, ltb, List, [], ◌∷◌, max, Option, Some, None, inl, inr, refl, sym, ap, ◌∙◌, arith}
 use Rattle.std.specs.Prelude.{◌&&◌}
 use Rattle.std.proofs.lemmas.Bool.{false≢true, cases_lt}
 use Rattle.std.proofs.lemmas.Bool.Decides.{nat_tests}
-use Rattle.region.proofs.Truth.{and_left, and_right, and_true}
+use Rattle.region.proofs.Truth.{and_left, and_right}
 use Rattle.cell_split.specs.declared.verdict.Leaf.{Leaf}
-use Rattle.cell_split.specs.Entries.{first_open, greatest_word, is_open_above, last_word, open_word}
+use Rattle.cell_split.specs.Entries.{first_open, is_open_above, last_word, open_word}
 use Rattle.cell_split.specs.Verdicts.{is_open}
 use Rattle.covering.proofs.Entering.{none_open}
 use Rattle.covering.proofs.Greatest.{greatest_above}

@@ -1,3 +1,4 @@
+pub mod Accepted
 pub mod CellTests
 pub mod Digits
 pub mod Latest
@@ -7,3 +8,4 @@ pub mod Showing
 pub mod Taking
 pub mod TruthLemmas
 pub mod Valued
+pub mod Written

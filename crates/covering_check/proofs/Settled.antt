@@ -1,8 +1,8 @@
 -- The letters of a settled tree show it again.
-use Rattle.std.proofs.Common.{◌≡◌, ℕ, zero, suc, ◌+◌, ◌-◌, ◌<◌, ◌≤◌, Bool, true, false, cond, eqb, ltb, List, [], ◌∷◌, ◌++◌, append-nil, append_assoc, find, map, max, Option, Some, None, Result, Ok, Err, refl, sym, ap, ◌∙◌, subst, arith}
+use Rattle.std.proofs.Common.{◌≡◌, ℕ, zero, suc, ◌+◌, ◌-◌, ◌<◌, ◌≤◌, Bool, true, false, cond, eqb, ltb, List, [], ◌∷◌, ◌++◌, find, map, max, Option, Some, None, Result, Ok, refl, sym, ap, ◌∙◌, subst, arith}
 use Rattle.std.specs.Prelude.{◌&&◌}
 use Rattle.std.specs.List.{flat_map}
-use Rattle.std.specs.Option.{option_and_then, option_map, is_some, option_or, option_to_list}
+use Rattle.std.specs.Option.{option_and_then, is_some, option_or, option_to_list}
 use Rattle.std.specs.Ordering.{int_eq}
 use Rattle.std.proofs.lemmas.Bool.{false≢true}
 use Rattle.std.proofs.lemmas.Bool.Decides.{Decides-int_eq, nat_tests}
@@ -15,7 +15,7 @@ use Rattle.cell_split.specs.declared.cell.Task.{Task}
 use Rattle.cell_split.specs.declared.verdict.Leaf.{Leaf}
 use Rattle.cell_split.specs.declared.verdict.Verdict.{Verdict}
 use Rattle.cell_split.specs.declared.verdict.Verdict.TheVariants.{Outside, Proved, Refuted, Split, Open}
-use Rattle.cell_split.specs.Entries.{entry_by, entry_of, first_open, greatest_word, is_open_above, last_word, open_word, refuted_word}
+use Rattle.cell_split.specs.Entries.{entry_by, first_open, greatest_word, is_open_above, last_word, open_word, refuted_word}
 use Rattle.cell_split.specs.Judges.{Content, IsLawful, IsTask}
 use Rattle.cell_split.specs.Split.{children_of}
 use Rattle.cell_split.specs.Tree.{IsLeafOf, child_tasks, leaf_of, leaves, levels, root_task, task_of, top}
@@ -35,18 +35,18 @@ use Rattle.covering.proofs.Refuting.{none_refuted}
 use Rattle.covering.proofs.Spelling.{letters_of_cut, letters-step}
 use Rattle.covering.proofs.Walking.{find_none, found_has}
 use Rattle.covering_check.specs.declared.claim.Claim.{Claim}
-use Rattle.covering_check.specs.declared.claim.Claim.TheVariants.{Nowhere, UpTo}
+use Rattle.covering_check.specs.declared.claim.Claim.TheVariants.{UpTo}
 use Rattle.covering_check.specs.declared.fault.CoverFault.{CoverFault}
 use Rattle.covering_check.specs.declared.mark.Mark.{Mark}
 use Rattle.covering_check.specs.Acceptance.{claim_for, numbers_of}
 use Rattle.covering_check.specs.Cells.{is_cell_of}
-use Rattle.covering_check.specs.Checks.{answer_by, entry_over, is_failing, is_refuted_at, is_spent, shown_by}
+use Rattle.covering_check.specs.Checks.{answer_by, entry_over, is_failing, is_refuted_at, shown_by}
 use Rattle.covering_check.specs.Gives.{◌>>=◌}
 use Rattle.covering_check.specs.Marks.{Marks}
 use Rattle.covering_check.specs.Members.{word_of_claim}
-use Rattle.covering_check.specs.Visits.{is_letter_for, letter_for, taken, taken_by, visited}
+use Rattle.covering_check.specs.Visits.{is_letter_for, letter_for, taken, visited}
 use Rattle.covering_check.proofs.CellTests.{cell_true}
-use Rattle.covering_check.proofs.Taking.{visited-step, visited_cut, visited_leaf, visited_split}
+use Rattle.covering_check.proofs.Taking.{visited_cut, visited_leaf, visited_split}
 
 -- ---- the letters of the cells that are named
 
@@ -274,7 +274,7 @@ failing_leaf c k word l p under leaf last is =
     (ap (is_refuted_at (numbers_of p)) own ∙ numbers_same p))
 
 -- what is known of the claim
-abbrev IsClaim : Content → ℕ → ℕ → Option (Cell × Point) → Type 0
+abbrev pub IsClaim : Content → ℕ → ℕ → Option (Cell × Point) → Type 0
 IsClaim c k word found = (word_of_claim (claim_for word found) ≡ word) × (is_failing c k (claim_for word found) ≡ true)
 
 found_claim : (c : Content) (k word : ℕ) (l : Leaf) → 0 < word → IsUnder (root_task c k) l → IsLeafOf c l → last_word l ≡ word → is_refuted l.verdict ≡ true → IsClaim c k word (refuted_at l)
@@ -289,7 +289,7 @@ found_claim c k word l some under leaf last refuted = by l.verdict refl refuted
     by Split e h = absurd (false≢true h)
     by (Open q) e h = absurd (false≢true h)
 
-claim_is : (c : Content) → IsLawful c → (k : ℕ) → k < c.problems → IsClaim c k (refuted_word_of c k) (first_refuted (refuted_word_of c k) (leaves_of c k))
+pub claim_is : (c : Content) → IsLawful c → (k : ℕ) → k < c.problems → IsClaim c k (refuted_word_of c k) (first_refuted (refuted_word_of c k) (leaves_of c k))
 claim_is c law k known = by (refuted_word_of c k) refl
   where
     ls : List Leaf

@@ -6,7 +6,7 @@ use Rattle.cell_split.specs.Judges.{Content}
 use Rattle.cell_split.specs.Tree.{root_task}
 use Rattle.covering_check.specs.declared.claim.Claim.{Claim}
 use Rattle.covering_check.specs.declared.fault.CoverFault.{CoverFault}
-use Rattle.covering_check.specs.Checks.{answer_by, entry_over, is_failing, is_spent, shown_by}
+use Rattle.covering_check.specs.Checks.{answer_by, is_failing, is_spent, shown_by}
 use Rattle.covering_check.specs.Gives.{◌>>=◌}
 use Rattle.covering_check.specs.Marks.{Marks}
 use Rattle.covering_check.specs.Members.{word_of_claim}

@@ -1,5 +1,5 @@
 -- Cells that take their letters one after another.
-use Rattle.std.proofs.Common.{◌≡◌, ℕ, zero, suc, ◌+◌, ◌-◌, ◌<◌, ◌≤◌, Bool, true, false, cond, eqb, ltb, List, [], ◌∷◌, ◌++◌, get_or, length, take, drop, Option, Some, None, Result, Ok, Err, refl, sym, ap, ◌∙◌, subst, arith}
+use Rattle.std.proofs.Common.{◌≡◌, ℕ, zero, suc, ◌+◌, ◌-◌, ◌<◌, ◌≤◌, Bool, true, false, cond, eqb, ltb, List, [], ◌∷◌, ◌++◌, get_or, length, take, drop, Option, Some, Result, Ok, Err, refl, sym, ap, ◌∙◌, arith}
 use Rattle.std.specs.Prelude.{◌&&◌}
 use Rattle.std.specs.List.{flat_map}
 use Rattle.std.proofs.lemmas.Bool.{false≢true}
@@ -26,7 +26,7 @@ use Rattle.covering_check.specs.declared.mark.Mark.{Mark}
 use Rattle.covering_check.specs.Gives.{◌>>=◌}
 use Rattle.covering_check.specs.Left.{IsAtEnd}
 use Rattle.covering_check.specs.Marks.{Marks, with_mark}
-use Rattle.covering_check.specs.Visits.{Walks, fault_at, is_later, is_letter_for, later_open, latest_open, letter_for, taken, taken_by, visited, visited_to}
+use Rattle.covering_check.specs.Visits.{Walks, is_letter_for, later_open, latest_open, letter_for, taken, taken_by, visited, visited_to}
 
 -- ---- the cells that are named
 

@@ -1,27 +1,27 @@
 -- What an accepted line shows is the entry of judged cells that have every place above the refuted rank.
-use Rattle.std.proofs.Common.{◌≡◌, ℕ, zero, suc, ◌+◌, ◌<◌, ◌≤◌, Bool, true, false, cond, eqb, ltb, List, [], ◌∷◌, ◌++◌, filter, find, max, Option, Some, None, Result, Ok, Err, ◌⊎◌, inl, inr, refl, sym, ap, ◌∙◌, subst, arith}
+use Rattle.std.proofs.Common.{◌≡◌, ℕ, zero, suc, ◌+◌, ◌<◌, ◌≤◌, Bool, true, false, cond, eqb, ltb, List, [], ◌∷◌, ◌++◌, filter, find, max, Option, Some, None, Result, Ok, Err, inl, inr, refl, sym, ap, ◌∙◌, subst, arith}
 use Rattle.std.specs.Prelude.{◌&&◌, not, codes, bytes_eq}
 use Rattle.std.specs.List.{flat_map}
 use Rattle.std.specs.Option.{option_or}
-use Rattle.std.proofs.lemmas.Bool.{false≢true, cases_lt}
+use Rattle.std.proofs.lemmas.Bool.{false≢true}
 use Rattle.std.proofs.lemmas.Bool.Decides.{nat_tests}
 use Rattle.std.proofs.lemmas.List.Elements.{All-from_recursion}
 use Rattle.std.proofs.lemmas.List.Folds.{find-append}
 use Rattle.region.specs.Plane.{Place}
-use Rattle.region.proofs.Truth.{and_left, and_right, and_true}
+use Rattle.region.proofs.Truth.{and_left, and_right}
 use Rattle.cell_split.specs.declared.cell.Task.{Task}
 use Rattle.cell_split.specs.declared.verdict.Entry.{Entry}
 use Rattle.cell_split.specs.declared.verdict.Leaf.{Leaf}
 use Rattle.cell_split.specs.declared.verdict.Verdict.{Verdict}
 use Rattle.cell_split.specs.declared.verdict.Verdict.TheVariants.{Outside, Proved, Refuted, Split, Open}
-use Rattle.cell_split.specs.Entries.{entry_by, first_open, greatest_word, is_open_above, last_word, open_word, refuted_word}
+use Rattle.cell_split.specs.Entries.{entry_by, first_open, is_open_above, last_word, open_word, refuted_word}
 use Rattle.cell_split.specs.Judges.{Content, IsLawful, IsTask}
 use Rattle.cell_split.specs.Laws.{Covers}
 use Rattle.cell_split.specs.Split.{children_of}
 use Rattle.cell_split.specs.Tree.{child_tasks, leaf_of, levels, root_task, task_of}
 use Rattle.cell_split.specs.Verdicts.{is_open, is_refuted, is_split}
 use Rattle.cell_split.proofs.Every.{Any-from_somewhere, Every, Every-append, Every-both, Every-flat_map, Every-map, Every-weaker, Somewhere, Somewhere-append_left, Somewhere-flat_map, Somewhere-weaker, flat_map-map}
-use Rattle.cell_split.proofs.LeafLemmas.{children_are, root_is_task, split_not_smallest, tasks_down}
+use Rattle.cell_split.proofs.LeafLemmas.{root_is_task, split_not_smallest, tasks_down}
 use Rattle.cell_split.proofs.SplitLemmas.{children_cover, levels_fall}
 use Rattle.serde_json.specs.Data.{Data}
 use Rattle.covering.specs.Letters.{letter_of}
@@ -323,16 +323,16 @@ shown_is c law k known claim letters e h =
     }
 
 -- what is answered once a member is known
-abbrev by_letters : Content → ℕ → List ℕ → List ℕ → List ℕ → List ℕ → Claim → Marks → Result Entry CoverFault
+abbrev pub by_letters : Content → ℕ → List ℕ → List ℕ → List ℕ → List ℕ → Claim → Marks → Result Entry CoverFault
 by_letters c k column day named dated claim letters = cond (bytes_eq named column && bytes_eq dated day) (shown_by c k claim letters) (Err Column)
 
-abbrev by_claim : Content → ℕ → List ℕ → List ℕ → Data → List ℕ → List ℕ → Claim → Result Entry CoverFault
+abbrev pub by_claim : Content → ℕ → List ℕ → List ℕ → Data → List ℕ → List ℕ → Claim → Result Entry CoverFault
 by_claim c k column day d named dated claim = or_no_line (marks_in d) >>= by_letters c k column day named dated claim
 
-abbrev by_day : Content → ℕ → List ℕ → List ℕ → Data → List ℕ → List ℕ → Result Entry CoverFault
+abbrev pub by_day : Content → ℕ → List ℕ → List ℕ → Data → List ℕ → List ℕ → Result Entry CoverFault
 by_day c k column day d named dated = or_no_line (claim_in d) >>= by_claim c k column day d named dated
 
-abbrev by_column : Content → ℕ → List ℕ → List ℕ → Data → List ℕ → Result Entry CoverFault
+abbrev pub by_column : Content → ℕ → List ℕ → List ℕ → Data → List ℕ → Result Entry CoverFault
 by_column c k column day d named = or_no_line (text_at (codes "day") d) >>= by_day c k column day d named
 
 pub accepted_is_true : (c : Content) → IsLawful c → (k : ℕ) → k < c.problems → (column day line : List ℕ) (e : Entry) → shown_of c k column day line ≡ Ok e → IsShown c k e

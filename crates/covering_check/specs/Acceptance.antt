@@ -1,14 +1,15 @@
 -- What is settled of a tree is shown again by its letters.
-use Rattle.std.specs.Prelude.{◌≡◌, ℕ, ◌<◌, ◌-◌, map, Option, Some, None, Ok}
+use Rattle.std.specs.Prelude.{◌≡◌, ℕ, ◌<◌, ◌-◌, List, map, Option, Some, None, Ok}
 use Rattle.region.specs.declared.points.Point.{Point}
 use Rattle.cell_split.specs.declared.cell.Cell.{Cell}
 use Rattle.cell_split.specs.Judges.{Content, IsLawful}
 use Rattle.covering.specs.declared.settled.Settled.{Settled}
+use Rattle.covering.specs.Lines.{IsReadAs, tree_data}
 use Rattle.covering.specs.Settles.{IsSettled, refuted_word_of}
 use Rattle.covering_check.specs.declared.claim.Claim.{Claim}
 use Rattle.covering_check.specs.declared.claim.Claim.TheVariants.{Nowhere, UpTo}
 use Rattle.covering_check.specs.declared.claim.Numbers.{Numbers}
-use Rattle.covering_check.specs.Checks.{shown_by}
+use Rattle.covering_check.specs.Checks.{shown_by, shown_of}
 use Rattle.covering_check.specs.Marks.{Marks}
 
 abbrev pub numbers_of : Point → Numbers
@@ -25,3 +26,9 @@ SettledTreesAreShown =
     (c : Content) → IsLawful c → (problem : ℕ) → problem < c.problems → (s : Settled) → IsSettled c problem s → (letters : Marks) →
     map (λ m. m.letter) letters.marks ≡ s.letters → letters.end ≡ None →
     shown_by c problem (claim_for (refuted_word_of c problem) s.refuted) letters ≡ Ok s.entry
+
+-- every text of a line of the first form is accepted and shows the tree's entry
+abbrev pub TreeLinesAreAccepted : Type 0
+TreeLinesAreAccepted =
+    (c : Content) → IsLawful c → (problem : ℕ) → problem < c.problems → (s : Settled) → IsSettled c problem s → (column day line : List ℕ) →
+    IsReadAs (tree_data column day s) line → shown_of c problem column day line ≡ Ok s.entry

@@ -14,4 +14,4 @@ mod walk;
 
 pub use check::check_line;
 pub use fault::CoverFault;
-pub use laws::{accepted_lines_are_true, settled_trees_are_shown};
+pub use laws::{accepted_lines_are_true, settled_trees_are_shown, tree_lines_are_accepted};

@@ -1,4 +1,4 @@
-use Rattle.std.proofs.Common.{Ok, ap, arith, sym, ◌∙◌}
+use Rattle.std.proofs.Common.{Ok, ap, sym, ◌∙◌}
 use Rattle.covering_check.specs.Left.{left}
 use Rattle.covering_check.proofs.Showing.{shown_entry}
 use Rattle.covering_check.proofs.check.check_claim.Goals as goal

@@ -1,4 +1,4 @@
-use Rattle.std.proofs.Common.{rules, sym, ◌∙◌, ap}
+use Rattle.std.proofs.Common.{sym, ◌∙◌, ap}
 use Rattle.covering_check.specs.Cells.{is_cell_of}
 use Rattle.covering_check.proofs.CellTests.{cell_is}
 use Rattle.covering_check.proofs.check.is_failing.Goals as goal

@@ -1,5 +1,4 @@
 use Rattle.std.proofs.Common.{arith}
-use Rattle.std.proofs.lemmas.Bool.Decides.{nat_tests}
 use Rattle.covering_check.proofs.Digits.{is_below_most}
 use Rattle.covering_check.proofs.numerals.digits.Goals as goal
 

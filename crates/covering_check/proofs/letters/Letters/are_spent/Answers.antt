@@ -1,4 +1,3 @@
-use Rattle.std.proofs.Common.{ap}
 use Rattle.covering_check.specs.Left.{most_digits}
 use Rattle.covering_check.proofs.Reading.{spent_at}
 use Rattle.covering_check.proofs.letters.Letters.are_spent.Goals as goal
