@@ -30,8 +30,8 @@ def read_json(path):
     except json.JSONDecodeError as error:
         raise Fault(f'{path}: no JSON at line {error.lineno}, column {error.colno}: {error.msg}. '
                     'A shapefile, GeoPackage or KML is made into a border by tools/border')
-    except RecursionError:
-        raise Fault(f'{path}: lists stand too deep inside each other')
+    except (RecursionError, ValueError):
+        raise Fault(f'{path}: lists stand too deep inside each other, or a number is too long')
     except Fault as fault:
         raise Fault(f'{path}: {fault}')
 

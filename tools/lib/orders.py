@@ -50,8 +50,10 @@ def mean_noon(west, east, offset):
 
 def date_of(text, name):
     try:
-        day = datetime.date.fromisoformat(text)
+        day = datetime.datetime.strptime(text, '%Y-%m-%d').date()
     except (TypeError, ValueError):
+        day = None
+    if day is None or day.isoformat() != text:
         raise Fault(f'{name}: {text} is no date as 2025-03-01')
     if not FIRST_DAY <= day <= LAST_DAY:
         raise Fault(f'{name}: {text} is not from {FIRST_DAY} to {LAST_DAY}')

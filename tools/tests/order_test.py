@@ -115,6 +115,11 @@ class OrderTest(ToolTest):
                            ('"days":30', '"days" stands twice'), ('"sun":"moon"', '"moon" is none')):
             with self.subTest(said):
                 self.stopped(said, 'order', '--look', self.write('o.json', '{%s,%s' % (more, text[1:])))
+        for wrong, said in (('20250101', 'no date'), ('2025-W01-1', 'no date'), ('2025-1-01', 'no date')):
+            self.stopped(said, 'order', '--look', self.write('o.json', text.replace('2025-01-01', wrong)))
+        for wrong in ('[' * 100_000, '9' * 5_000, '{"from":NaN}', '[]', '"\\ud800"', ''):
+            run = self.run_tool('order', '--look', self.write('o.json', wrong))
+            self.assertEqual((run.returncode, 'Traceback' in run.stderr), (1, False), run.stderr[-300:])
         self.stopped('"zone" is missing', 'order', '--look', self.write('o.json', text.replace('"zone":180,', '')))
         told = self.done('order', '--look', self.write('o.json', text.replace('"zone":180,', '"zone":3,')))[1]
         self.assertIn('mean noon 09:00', told)
