@@ -16,7 +16,7 @@ use Rattle.cell_split.specs.Judges.{Content}
 use Rattle.cell_split.specs.Split.{children_of}
 use Rattle.cell_split.specs.Tree.{child_tasks, leaf_of, levels, task_of}
 use Rattle.cell_split.specs.Verdicts.{is_open, is_split}
-use Rattle.cell_split.proofs.Every.{Every, Every-map, Every-weaker, flat_map-map, flat_map_same}
+use Rattle.cell_split.proofs.Every.{Every-map, Every-weaker, flat_map-map, flat_map_same}
 use Rattle.cell_split.proofs.SplitLemmas.{levels_fall}
 use Rattle.covering.specs.Letters.{letter_of}
 use Rattle.covering.proofs.Parts.{parts_more}
