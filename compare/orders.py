@@ -1,6 +1,6 @@
 """Compares what a program answers to random orders with what a reference answers, byte for byte.
 
-    python3 bench/orders.py COUNT [PROGRAM [REFERENCE [SEED]]]
+    python3 compare/orders.py COUNT [PROGRAM [REFERENCE [SEED]]]
 
 PROGRAM and REFERENCE are commands, each one argument; else they are ./timetable and reference/timetable.py. They are run
 with the word `order` on COUNT orders, of which about half are wrong somewhere, and with the word `plain` on a fifth as many

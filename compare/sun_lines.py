@@ -1,6 +1,6 @@
 """Compares random lines of `sun`, as a program prints them, with those of a reference, byte for byte.
 
-    python3 bench/sun_lines.py COUNT [PROGRAM [REFERENCE [SEED]]]
+    python3 compare/sun_lines.py COUNT [PROGRAM [REFERENCE [SEED]]]
 
 PROGRAM and REFERENCE are commands, each one argument; else they are ./timetable and reference/timetable.py. They are run
 with the words of `sun`. Compared are the output, the error stream and the status. The limits of each word are among them,

@@ -5,7 +5,6 @@ use Rattle.fixed_interval.proofs.EnclosureLaws.{LiesIn_refl}
 use Rattle.fixed_interval.proofs.Inclusion.{range_ordered}
 use Rattle.altitude_test.proofs.ValueLaws.{altitude_narrows, grid_altitude_holds, grid_meridian_holds, meridian_narrows}
 use Rattle.asr_test.proofs.AsrLaws.{asr_narrows, grid_asr_holds}
-use Rattle.method_table.specs.declared.problem.Kind.{Kind}
 use Rattle.method_table.specs.declared.problem.Kind.TheVariants.{Above, Below, Past, Shadow}
 use Rattle.cell_judge.specs.Conditions.{angles}
 use Rattle.cell_judge.specs.Skies.{grid_value}

@@ -8,7 +8,7 @@ use Rattle.std.proofs.lemmas.Int.{ints, by_lt_z}
 use Rattle.region.specs.Magnitude.{IsWithin}
 use Rattle.region.specs.Plane.{Place, Segment, Box, IsIn, encloses}
 use Rattle.region.specs.Rings.{Position, Ring, Polygon, edges_from, ring_edges, polygon_edges, is_in_district}
-use Rattle.region.specs.Extent.{is_far, is_short, is_short_from, is_step}
+use Rattle.region.specs.Extent.{is_far, is_compact, is_compact_from, is_step}
 use Rattle.region.specs.Faults.{first_fault}
 use Rattle.region.specs.Named.{progress, passing, at_start, at_longitude, at_latitude, edge_point, first_point, corner, named}
 use Rattle.region.proofs.Truth.{and_left, and_right, and_true, le_true, map_some, or_left, or_right, or_some, some_is}
@@ -34,31 +34,31 @@ short-append (x ∷ xs) ys (h, hs) k = (h, short-append xs ys hs k)
 
 -- ---- the edges of a district
 
-along_short : (p : Position) (rest : Ring) → is_short_from p rest ≡ true → AreShort (edges_from p rest)
+along_short : (p : Position) (rest : Ring) → is_compact_from p rest ≡ true → AreShort (edges_from p rest)
 along_short p [] h = tt
 along_short p (q ∷ rest) h =
     let later = short_rest p q rest h in
-    let step = and_left (is_step p q) (is_short_from q rest) (and_right (not (is_far p)) (is_step p q && is_short_from q rest) h) in
+    let step = and_left (is_step p q) (is_compact_from q rest) (and_right (not (is_far p)) (is_step p q && is_compact_from q rest) h) in
     let e = is_edge p q (short_start p (q ∷ rest) h) (short_start q rest later) step in
     (record { x_span = e.x_span; y_span = e.y_span }, along_short q rest later)
 
-ring_short : (ring : Ring) → is_short ring ≡ true → AreShort (ring_edges ring)
+ring_short : (ring : Ring) → is_compact ring ≡ true → AreShort (ring_edges ring)
 ring_short [] h = tt
 ring_short (p ∷ rest) h = along_short p rest h
 
-polygon_short : (rings : Polygon) → list_all is_short rings ≡ true → AreShort (polygon_edges rings)
+polygon_short : (rings : Polygon) → list_all is_compact rings ≡ true → AreShort (polygon_edges rings)
 polygon_short [] h = tt
 polygon_short (ring ∷ rest) h =
     short-append (ring_edges ring) (polygon_edges rest)
-    (ring_short ring (and_left (is_short ring) (list_all is_short rest) h))
-    (polygon_short rest (and_right (is_short ring) (list_all is_short rest) h))
+    (ring_short ring (and_left (is_compact ring) (list_all is_compact rest) h))
+    (polygon_short rest (and_right (is_compact ring) (list_all is_compact rest) h))
 
-district_short : (polygons : List Polygon) → list_all (list_all is_short) polygons ≡ true → AreShort (flat_map polygon_edges polygons)
+district_short : (polygons : List Polygon) → list_all (list_all is_compact) polygons ≡ true → AreShort (flat_map polygon_edges polygons)
 district_short [] h = tt
 district_short (rings ∷ rest) h =
     short-append (polygon_edges rings) (flat_map polygon_edges rest)
-    (polygon_short rings (and_left (list_all is_short rings) (list_all (list_all is_short) rest) h))
-    (district_short rest (and_right (list_all is_short rings) (list_all (list_all is_short) rest) h))
+    (polygon_short rings (and_left (list_all is_compact rings) (list_all (list_all is_compact) rest) h))
+    (district_short rest (and_right (list_all is_compact rings) (list_all (list_all is_compact) rest) h))
 
 -- ---- the place that an edge names
 

@@ -96,7 +96,8 @@ impl Sky {
 }
 
 /// The verdict on a cell whose box has the place `p` of the district.
-pub(crate) fn verdict_for(problem: &Problem, cell: &Cell, p: Point) -> Verdict
+pub(crate) fn verdict_for(problem: &Problem, sine: Interval, cell: &Cell, p: Point) -> Verdict
+    requires sine { IsSineOf problem.now.kind sine }
     requires cell { IsCell cell.now }
     requires limits { IsInLimits (row_of problem.now) }
     ensures { result ≡ verdict_with grid_sun (row_of problem.now) cell.now p }
@@ -125,6 +126,7 @@ impl Judge for Sky {
     }
 
     fn judge(&self, t: Task) -> Verdict {
-        self.judge_for(&self.problems[t.problem as usize], &t.cell)
+        let k = t.problem as usize;
+        self.judge_for(&self.problems[k], self.sines[k], &t.cell)
     }
 }

@@ -12,4 +12,5 @@ mod tiles;
 mod values;
 mod verdicts;
 
+pub use sines::sines_of;
 pub use sky::Sky;

@@ -39,7 +39,7 @@ fn sine_of(kind: Kind) -> Interval
 }
 
 /// The sine of each problem's angles.
-pub(crate) fn sines_of(problems: &[Problem; 7]) -> [Interval; 7]
+pub fn sines_of(problems: &[Problem; 7]) -> [Interval; 7]
     ensures { AreSinesOf problems.now result }
 {
     [

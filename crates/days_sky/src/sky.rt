@@ -43,7 +43,7 @@ impl Judge for DaysSky<'_> {
 
     fn judge(&self, t: Task) -> Verdict {
         let day = &self.days[(t.problem / 7) as usize];
-        self.sky
-            .judge_for(&day.problems[(t.problem % 7) as usize], &t.cell)
+        let k = (t.problem % 7) as usize;
+        self.sky.judge_for(&day.problems[k], day.sines[k], &t.cell)
     }
 }

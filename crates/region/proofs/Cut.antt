@@ -240,24 +240,11 @@ band_named box polygons low high ordered g h =
     (scan_all (corner box) keep polygons)
     ∙ names_without_beyond box polygons keep ordered (λ e k. unreached low high box e g h k)
 
--- and so do a strip's
-pub strip_named : (box : Box) (polygons : List Polygon) (low : ℤ) → IsOrdered box → low ≤ℤ box.y0 → box.y1 ≤ℤ top_of low
-    → option_or (first_point box (map (λ t. t.1) (strip_edges low polygons)))
-    (cond (is_in_some (corner box) 0 false (strip_edges low polygons)) (Some (corner box)) None)
-    ≡ named box polygons
-strip_named box polygons low ordered g h = band_named box polygons low (top_of low) ordered g h
-
 map-compose : {A B C : Type 0} (f : A → B) (g : B → C) (xs : List A) → map (λ x. g (f x)) xs ≡ map g (map f xs)
 map-compose f g [] = refl
 map-compose f g (x ∷ xs) = ap (λ ys. g (f x) ∷ ys) (map-compose f g xs)
 
--- the edges of a strip, without their polygons
-pub strip_first : (polygons : List Polygon) (strip : StripView) → IsStripOf polygons strip
-    → map segment_of strip.edges ≡ map (λ t. t.1) (strip_edges strip.low polygons)
-strip_first polygons strip is =
-    map-compose numbered (λ (t : ℕ × Segment). t.1) strip.edges ∙ ap (map (λ (t : ℕ × Segment). t.1)) is.edges_are
-
--- the same of a band
+-- the edges of a band, without their polygons
 pub band_first : (polygons : List Polygon) (band : BandView) → IsBandOf polygons band
     → map segment_of band.edges ≡ map (λ t. t.1) (edges_between band.low band.high polygons)
 band_first polygons band is =

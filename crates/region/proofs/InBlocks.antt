@@ -14,14 +14,14 @@ use Rattle.region.specs.Plane.{Place, Segment, Box, is_on, crosses}
 use Rattle.region.specs.Rings.{Polygon, xor}
 use Rattle.region.specs.Named.{edge_point, first_point, corner, named}
 use Rattle.region.specs.Laws.{IsOrdered, misses_latitudes, misses_longitudes}
-use Rattle.region.specs.Strips.{StripView, IsStripOf, numbered, is_in_some, strip_edges, top_of}
+use Rattle.region.specs.Strips.{BandView, IsBandOf, numbered, is_in_some, edges_between}
 use Rattle.region.specs.Views.{segment_of}
 use Rattle.region.specs.Blocks.{IsHeld, AreBlocksOf, cut, first_in_blocks, is_in_some_block}
 use Rattle.region.proofs.Truth.{or_assoc, and_true, or_left, or_right, or_cases, is_lt, lt_true}
 use Rattle.region.proofs.Odd.{odd_by, is_odd-count_by}
 use Rattle.region.proofs.Wholly.{off_apart, corner_ordered, first_point-append}
 use Rattle.region.proofs.Beyond.{beyond_latitudes, names_none_beyond}
-use Rattle.region.proofs.Cut.{crosses_none, scan_group, strip_first, strip_named}
+use Rattle.region.proofs.Cut.{crosses_none, scan_group, band_first, band_named}
 
 -- a block whose box is at least as wide
 pub record IsWider (wide narrow : Block) : Type 0 where
@@ -200,18 +200,18 @@ pub none_left : (edges : List Edge) → length edges ≡ 0 → edges ≡ []
 none_left [] none = refl
 none_left (e ∷ rest) none = absurd (omega arith)
 
--- what a strip's blocks name, the district names
-pub named_in_blocks : (box : Box) (polygons : List Polygon) (strip : StripView) (blocks : List Block) (edges : List Edge) → IsOrdered box
-    → strip.low ≤ℤ box.y0 → box.y1 ≤ℤ top_of strip.low → IsStripOf polygons strip → edges ≡ strip.edges → AreBlocksOf blocks edges
+-- what a band's blocks name, the district names
+pub named_in_blocks : (box : Box) (polygons : List Polygon) (band : BandView) (blocks : List Block) (edges : List Edge) → IsOrdered box
+    → band.low ≤ℤ box.y0 → box.y1 ≤ℤ band.high → IsBandOf polygons band → edges ≡ band.edges → AreBlocksOf blocks edges
     → option_or (first_in_blocks box (cut blocks edges))
     (cond (is_in_some_block (corner box) 0 false (cut blocks edges)) (Some (corner box)) None)
     ≡ named box polygons
-named_in_blocks box polygons strip blocks edges ordered low high is same held =
+named_in_blocks box polygons band blocks edges ordered low high is same held =
     let around = is_in_some (corner box) 0 false in
     let inside = λ (b : Bool). cond b (Some (corner box)) None in
     ap (λ o. option_or o (inside (is_in_some_block (corner box) 0 false (cut blocks edges))))
     (first_by_blocks box blocks edges held ∙ ap (λ (es : List Edge). first_point box (map segment_of es)) same
-    ∙ ap (first_point box) (strip_first polygons strip is))
-    ∙ ap (λ b. option_or (first_point box (map (λ t. t.1) (strip_edges strip.low polygons))) (inside b))
+    ∙ ap (first_point box) (band_first polygons band is))
+    ∙ ap (λ b. option_or (first_point box (map (λ t. t.1) (edges_between band.low band.high polygons))) (inside b))
     (some_by_blocks (corner box) 0 false blocks edges held ∙ ap (λ (es : List Edge). around (map numbered es)) same ∙ ap around is.edges_are)
-    ∙ strip_named box polygons strip.low ordered low high
+    ∙ band_named box polygons band.low band.high ordered low high

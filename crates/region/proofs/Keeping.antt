@@ -9,13 +9,13 @@ use Rattle.region.specs.Plane.{Segment}
 use Rattle.region.specs.Rings.{Position, Ring, Polygon, edge_between, edges_from, polygon_edges}
 use Rattle.region.specs.Extent.{is_compact_from}
 use Rattle.region.specs.Views.{segment_of}
-use Rattle.region.specs.Strips.{StripView, IsStripOf, AreStripsFrom, numbered_edges, reaches, top_of, strip_edges, numbered, kept, kept_from}
+use Rattle.region.specs.Strips.{StripView, IsStripOf, AreStripsFrom, numbered_edges, reaches, edges_between, numbered, kept, kept_from}
 use Rattle.region.proofs.Along.{short_rest}
 use Rattle.region.proofs.Cut.{filter-append, parts}
 
-pub record KeptAlong (n : ℕ) (low : ℤ) (before : List Edge) (first : Position) (all : Ring) (now : List Edge) (previous : Position) (left : Ring) : Type 0 where
+pub record KeptAlong (n : ℕ) (low high : ℤ) (before : List Edge) (first : Position) (all : Ring) (now : List Edge) (previous : Position) (left : Ring) : Type 0 where
   pub short : is_compact_from previous left ≡ true
-  pub kept_is : map numbered now ++ kept n low (edges_from previous left) ≡ map numbered before ++ kept n low (edges_from first all)
+  pub kept_is : map numbered now ++ kept n low high (edges_from previous left) ≡ map numbered before ++ kept n low high (edges_from first all)
 
 pub kept-append : (n : ℕ) (low high : ℤ) (xs ys : List Segment) → kept n low high (xs ++ ys) ≡ kept n low high xs ++ kept n low high ys
 kept-append n low high xs ys =
@@ -73,15 +73,6 @@ kept_along_more n low high before first all now next p q rest k h = record {
   short = short_rest p q rest k.short;
   kept_is = keep_more n low high now next (edge_between p q ∷ []) (edges_from q rest) _ h k.kept_is;
 }
-
--- the strip that is made
-pub strip_done : (polygons : List Polygon) (strip : StripView) (low : ℤ) (edges : List Edge)
-    → strip.low ≡ low → strip.edges ≡ edges → map numbered edges ≡ edges_between low (top_of low) polygons
-    → (strip.low ≡ low) × IsStripOf polygons strip
-strip_done polygons strip low edges h k are = (
-  h,
-  record { edges_are = ap (map numbered) k ∙ are ∙ ap (λ z. strip_edges z polygons) (sym h) },
-)
 
 -- all edges that are kept
 pub edges_done : (polygons : List Polygon) (low high : ℤ) (edges : List Edge) (n : ℕ)

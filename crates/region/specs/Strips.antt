@@ -42,6 +42,16 @@ numbered e = (e.polygon, segment_of e)
 pub record IsStripOf (polygons : List Polygon) (strip : StripView) : Type 0 where
   pub edges_are : map numbered strip.edges ≡ strip_edges strip.low polygons
 
+-- a band's lower and upper end and its edges
+pub record BandView : Type 0 where
+  pub low : ℤ
+  pub high : ℤ
+  pub edges : List Edge
+
+-- the band holds exactly the district's edges that reach it, in their order
+pub record IsBandOf (polygons : List Polygon) (band : BandView) : Type 0 where
+  pub edges_are : map numbered band.edges ≡ edges_between band.low band.high polygons
+
 -- strips one on another
 pub record AreStripsFrom (polygons : List Polygon) (south : ℤ) (strips : List StripView) : Type 0 where
   pub all : (i : ℕ) (d : StripView) → i < length strips →

@@ -1,15 +1,18 @@
 // A district's edges near some latitudes, so that the boxes between them ask no others.
 ghost use Rattle.std.specs.Prelude.{◌≡◌, ℤ, ◌≤ℤ◌, List, length, ◌<◌, ◌^◌, IfOk};
 ghost use Rattle.std.specs.Option.{option_map};
+ghost use Rattle.region.specs.Blocks.{AreBlocksOf};
 ghost use Rattle.region.specs.Named.{named};
 ghost use Rattle.region.specs.Strips.{BandView, IsBandOf};
 ghost use Rattle.region.specs.Views.{place_of, box_of};
 
+use crate::blocks::{Block, blocks_of};
+use crate::edge_points::corner;
 use crate::edges::Edge;
 use crate::points::Point;
 use crate::polygons::{Polygon, edges_between};
 use crate::rects::Rect;
-use crate::strips::{any_around, first_of};
+use crate::scans::{any_around, first_in};
 use std::alloc::{AllocError, Global};
 use std::marker::Model;
 
@@ -20,12 +23,15 @@ pub struct Band {
     low: i64,
     high: i64,
     edges: Vec<Edge>,
+    blocks: Vec<Block>,
 }
 
 impl Model for Band {
     ghost Value = { BandView };
 
     ghost view = { λ b. record { low = b.low; high = b.high; edges = b.edges.items } };
+
+    ghost invariant = { λ b. AreBlocksOf b.blocks.items b.edges.items };
 }
 
 /// The band from `low` to `high`.
@@ -41,10 +47,30 @@ pub(crate) fn band_of(
     ensures band { IfOk result (IsBandOf polygons.now) }
 {
     let edges = edges_between(alloc, polygons, low, high)?;
-    Ok(Band { low, high, edges })
+    let blocks = blocks_of(alloc, edges.as_slice())?;
+    Ok(Band {
+        low,
+        high,
+        edges,
+        blocks,
+    })
 }
 
 impl Band {
+    /// The lower end of the band's latitudes, in place units.
+    pub(crate) fn low(&self) -> i64
+        ensures { result ≡ self.now.low }
+    {
+        self.low
+    }
+
+    /// The band's edges, in the order of polygons, rings and positions.
+    pub(crate) fn edges(&self) -> &[Edge]
+        ensures { result.now ≡ self.now.edges }
+    {
+        self.edges.as_slice()
+    }
+
     /// The place that is named for the box, as by the whole district. The box's latitudes lie in the
     /// band's.
     pub fn meets(&self, r: Rect) -> Option<Point>
@@ -53,16 +79,13 @@ impl Band {
         ensures { (polygons : List (List (List (ℤ × ℤ)))) → IsBandOf polygons self.now
             → option_map place_of result ≡ named (box_of r) polygons }
     {
-        if let Some(p) = first_of(self.edges.as_slice(), &r) {
+        let blocks = self.blocks.as_slice();
+        let edges = self.edges.as_slice();
+        if let Some(p) = first_in(blocks, edges, &r) {
             return Some(p);
         }
-        let corner = Point {
-            a: r.x0 as i128,
-            b: r.y0 as i128,
-            d: 1,
-        };
-        if any_around(self.edges.as_slice(), &corner) {
-            Some(corner)
+        if any_around(blocks, edges, &r) {
+            Some(corner(&r))
         } else {
             None
         }

@@ -12,6 +12,7 @@ ghost use Rattle.region.specs.Faults.{first_fault, IsSurveyed};
 ghost use Rattle.region.specs.Vectors.{rings_in, polygons_in};
 ghost use Rattle.region.specs.Views.{place_of, box_of};
 
+use crate::bands::{Band, band_of};
 use crate::edge_points::corner;
 use crate::faults::RegionFault;
 use crate::points::Point;

@@ -2,6 +2,7 @@
 // Contract: a place is in a district exactly by the even-odd rule, and a box is met exactly where one of its places is.
 #![tactic(auto)]
 
+mod bands;
 mod blocks;
 mod bounds;
 mod counts;

@@ -88,8 +88,7 @@ fn keep_along(
     low: i64,
     high: i64,
 ) -> Result<(), AllocError>
-    requires short { IsTrue (is_compact_from first rest.now) }
-    requires low { IsWithin (pos 47_000_000_000) low }
+    requires { IsTrue (is_compact_from first rest.now) }
     ensures { OnOk result (map numbered edges.new.items
         ≡ map numbered edges.old.items ++ kept polygon low high (edges_from first rest.now)) }
 {

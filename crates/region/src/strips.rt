@@ -1,20 +1,16 @@
 // A district's edges in strips of latitude, so that a small box asks only those near it.
-ghost use Rattle.std.specs.Prelude.{◌≡◌, ℤ, pos, ◌≤ℤ◌, ◌&&◌, not, ◌<◌, List, map, length, slice_get, false, if◌then◌else◌, ◌^◌, ◌+ℤ◌, ◌*◌, IfOk, Some};
+ghost use Rattle.std.specs.Prelude.{◌≡◌, ℤ, pos, ◌≤ℤ◌, ◌<◌, List, length, slice_get, ◌^◌, ◌+ℤ◌, ◌*◌, IfOk, Some};
 ghost use Rattle.region.specs.Magnitude.{IsWithin};
 ghost use Rattle.std.specs.Option.{option_map};
-ghost use Rattle.region.specs.Rings.{xor};
-ghost use Rattle.region.specs.Named.{first_point, named};
-ghost use Rattle.region.specs.Blocks.{AreBlocksOf};
-ghost use Rattle.region.specs.Strips.{StripView, IsStripOf, AreStripsOf, top_of, numbered, is_in_some};
-ghost use Rattle.region.specs.Views.{place_of, box_of, segment_of};
+ghost use Rattle.region.specs.Named.{named};
+ghost use Rattle.region.specs.Strips.{StripView, IsStripOf, AreStripsOf, top_of};
+ghost use Rattle.region.specs.Views.{place_of, box_of};
 
-use crate::blocks::{Block, blocks_of};
-use crate::edge_points::corner;
+use crate::bands::{Band, band_of};
 use crate::edges::Edge;
 use crate::points::Point;
-use crate::polygons::{Polygon, edges_between};
+use crate::polygons::Polygon;
 use crate::rects::Rect;
-use crate::scans::{any_around, first_in};
 use std::alloc::{AllocError, Global};
 use std::marker::Model;
 
@@ -25,45 +21,36 @@ const HEIGHT: i64 = 8_388_608;
 /// units high, in the order of polygons, rings and positions.
 #[derive(Drop)]
 pub struct Strip {
-    low: i64,
-    edges: Vec<Edge>,
-    blocks: Vec<Block>,
+    band: Band,
 }
 
 impl Model for Strip {
     ghost Value = { StripView };
 
-    ghost view = { λ s. record { low = s.low; edges = s.edges.items } };
+    ghost view = { λ s. record { low = s.band.low; edges = s.band.edges } };
 
-    ghost invariant = { λ s. AreBlocksOf s.blocks.items s.edges.items };
+    ghost invariant = { λ s. s.band.high ≡ top_of s.band.low };
 }
 
 impl Strip {
-    pub(crate) fn new(alloc: Global, low: i64, edges: Vec<Edge>) -> Result<Strip, AllocError>
-        ensures { IfOk result (λ strip. (strip.low ≡ low) × (strip.edges ≡ edges.items)) }
-    {
-        let blocks = blocks_of(alloc, edges.as_slice())?;
-        Ok(Strip { low, edges, blocks })
-    }
-
     /// The lower end of the strip's latitudes, in place units.
     pub fn low(&self) -> i64
         ensures { result ≡ self.now.low }
     {
-        self.low
+        self.band.low()
     }
 
     pub fn edge_count(&self) -> usize
         ensures { result ≡ length self.now.edges }
     {
-        self.edges.len()
+        self.band.edges().len()
     }
 
     pub fn edge(&self, i: usize) -> Edge
         requires { i < length self.now.edges }
         ensures { slice_get self.now.edges i ≡ Some result }
     {
-        self.edges[i]
+        self.band.edges()[i]
     }
 
     /// The place that is named for the box, as by the whole district. The box's latitudes lie in the
@@ -74,16 +61,7 @@ impl Strip {
         ensures { (polygons : List (List (List (ℤ × ℤ)))) → IsStripOf polygons self.now
             → option_map place_of result ≡ named (box_of r) polygons }
     {
-        let blocks = self.blocks.as_slice();
-        let edges = self.edges.as_slice();
-        if let Some(p) = first_in(blocks, edges, &r) {
-            return Some(p);
-        }
-        if any_around(blocks, edges, &r) {
-            Some(corner(&r))
-        } else {
-            None
-        }
+        self.band.meets(r)
     }
 }
 
@@ -125,14 +103,8 @@ fn strip_of(alloc: Global, polygons: &[Polygon], low: i64) -> Result<Strip, Allo
     requires low { IsWithin (pos 47_000_000_000) low }
     ensures { IfOk result (λ strip. (strip.low ≡ low) × IsStripOf polygons.now strip) }
 {
-    let mut edges = Vec::new(alloc);
-    let mut number = 0;
-    for polygon in polygons {
-        polygon.keep_edges(&mut edges, number, low)?;
-        number += 1;
-    }
-    let strip = Strip::new(alloc, low, edges)?;
-    Ok(strip)
+    let band = band_of(alloc, polygons, low, top_of(low))?;
+    Ok(Strip { band })
 }
 
 // The lower end of the strip of this number.

@@ -32,7 +32,7 @@ fn day_of(number: i32) -> Day
     requires not_late { number ≤ℤ pos 47846 }
 {
     let problems = problems(Method::Mwl, Asr::Standard, number, 0, 720, 0, 90);
-    Day { problems }
+    Day::new(problems)
 }
 
 fn entries_of<J: Judge>(

@@ -10,8 +10,8 @@ use Rattle.cell_split.specs.declared.verdict.Leaf.{Leaf}
 use Rattle.cell_split.specs.Verdicts.{is_split, is_open, is_refuted}
 use Rattle.cell_split.specs.Judges.{Content, IsTask}
 use Rattle.cell_split.specs.Split.{children_of}
-use Rattle.cell_split.specs.Tree.{task_of, leaf_of, leaves}
-use Rattle.cell_split.specs.Entries.{greatest_word, is_open_above, last_word, open_word, refuted_word}
+use Rattle.cell_split.specs.Tree.{task_of, leaves}
+use Rattle.cell_split.specs.Entries.{is_open_above, last_word, open_word, refuted_word}
 use Rattle.cell_split.proofs.Every.{Every}
 use Rattle.cell_split.proofs.TreeLemmas.{leaves_of_leaf, leaves_of_split}
 use Rattle.cell_split.proofs.LeafLemmas.{IsUnder, leaves_under}

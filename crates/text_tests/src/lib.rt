@@ -1,4 +1,4 @@
-// Tests of the crates that read and write texts, a module a crate.
+// Tests of the crates of words and texts, a module a crate; of orders also one of their lines.
 // Contract: none; the crate has tests alone.
 #![tactic(auto)]
 

@@ -1,15 +1,14 @@
 -- How the answer to each command is made.
-use Rattle.std.proofs.Common.{◌≡◌, ℕ, List, Bool, true, false, cond, Ok, Err, Result, refl, sym, subst}
+use Rattle.std.proofs.Common.{◌≡◌, ℕ, List, Bool, true, false, cond, Ok, Err, Result, sym, subst}
 use Rattle.std.specs.Prelude.{◌≢◌, ◌==◌, IfOk}
 use Rattle.command_input.proofs.AnswerLemmas.{answers_order, answers_refused, answers_unread}
 use Rattle.command_input.specs.Answers.{Answers}
 use Rattle.command_input.specs.Taken.{IsReadAs}
-use Rattle.order_reader.specs.Asked.{Asked, asked_of}
+use Rattle.order_reader.specs.Asked.{asked_of}
 use Rattle.order_reader.specs.Line.{order_line}
 use Rattle.order_reader.specs.declared.order.Order.{Order as OrderRead}
 use Rattle.outcome.proofs.Endings.{text_ending, usage_ending}
-use Rattle.outcome.specs.Answer.{finished}
-use Rattle.outcome.specs.Endings.{EndsBy, ending_of, line_of_ending, status_of_ending}
+use Rattle.outcome.specs.Endings.{ending_of, line_of_ending, status_of_ending}
 use Rattle.outcome.specs.Ends.{Reports}
 use Rattle.outcome.specs.Streams.{Stream, Streams}
 use Rattle.outcome.specs.Writing.{Writes}
@@ -22,9 +21,9 @@ use Rattle.outcome.specs.declared.stop.Stop.{Stop}
 use Rattle.outcome.specs.declared.stop.Stop.TheVariants.{NoMemory as StopNoMemory, WriteFault as StopWriteFault}
 use Rattle.sun_verdict.specs.Line.{undecided_in, verdict_line}
 use Rattle.sun_verdict.specs.declared.request.Request.{Request}
-use Rattle.timetable.specs.Answer.{answer_to, order_answer, sun_answer, table_answer, wanted_by}
+use Rattle.timetable.specs.Answer.{answer_to, order_answer, table_answer, wanted_by}
 use Rattle.timetable.specs.Ended.{Ended}
-use Rattle.timetable.specs.Table.{table_of, undecided}
+use Rattle.order_table.specs.Trees.{table_of, undecided}
 use Rattle.timetable.specs.declared.words.Command.{Command}
 use Rattle.timetable.specs.declared.words.Command.TheVariants.{Unknown, Sun, Order, Plain}
 
@@ -34,7 +33,7 @@ AnswersTo command ending source source' out out' = Answers (wanted_by command) (
 
 -- a text that was written ends with no read fault
 no_read_fault : (w : Result ℕ Stop) → status_of_ending (ending_of w) ≢ ReadFault
-no_read_fault (Ok n) = by (n == 0) where
+no_read_fault (Ok n) same = by (n == 0) same where
   by : (t : Bool) → cond t Done StatusOpen ≢ ReadFault
   by true same = cc
   by false same = cc

@@ -1,12 +1,11 @@
 -- What the words and the input say of a run's ending.
-use Rattle.std.proofs.Common.{◌≡◌, ℕ, List, [], Bool, true, false, cond, ◌⊎◌, inl, inr, Option, Some, Ok, Err, refl, sym, ◌∙◌, subst}
-use Rattle.std.specs.Prelude.{◌≢◌, ◌==◌}
+use Rattle.std.proofs.Common.{◌≡◌, ℕ, List, ◌⊎◌, inl, inr, Ok, Err, refl, sym, ◌∙◌, subst}
+use Rattle.std.specs.Prelude.{◌≢◌}
 use Rattle.command_input.proofs.InputLemmas.{inputs_agree}
 use Rattle.command_input.specs.Answers.{IsTooLong, Leaves}
 use Rattle.command_input.specs.Input.{Input, IsSpelled, Wanted, an_order, nothing, order, read, too_long, unread}
-use Rattle.order_reader.specs.Asked.{Asked}
+use Rattle.order_table.proofs.RightLemmas.{tables_are_right as all_tables_are_right}
 use Rattle.order_reader.proofs.RuleKept.{orders_keep_the_rule}
-use Rattle.timetable.proofs.DayLemmas.{kept_by_rule, right_table}
 use Rattle.outcome.proofs.EndsLemmas.{done_none, done_or_open, no_part, none_added, open_some, IsWhole, Ways, ways}
 use Rattle.outcome.specs.Answer.{Answer, finished, refusal, status_of_count, usage_answer}
 use Rattle.outcome.specs.Ends.{EndsAs}
@@ -14,11 +13,11 @@ use Rattle.outcome.specs.Streams.{Stream, Streams}
 use Rattle.outcome.specs.declared.status.Status.{Status}
 use Rattle.outcome.specs.declared.status.Status.TheVariants.{Done, Usage, OrderRefused, ReadFault, WriteFault, NoMemory}
 use Rattle.outcome.specs.declared.status.Status.TheVariants.{Open as StatusOpen}
-use Rattle.source_sink.specs.Outside.{Rose, Adds, AddsPart, AddsSome}
+use Rattle.source_sink.specs.Outside.{Adds}
 use Rattle.source_sink.specs.Reading.{IsReadToEnd}
 use Rattle.timetable.specs.Answer.{answer_to, wanted_by}
 use Rattle.timetable.specs.Ended.{Ended}
-use Rattle.timetable.specs.Laws.{EndedBy, FinishedRunsWroteTheAnswer, IsAnOrder, IsFinished, IsNoOrder, IsRefused, IsUsage, OrdersAreRefusedForCause, ReadsAnOrder, ReadsItsSource, RightWordsAreAnswered, TablesAreRight, ToldBytesDecide, UsageIsForWrongWords, WrongOrdersAreRefused, WrongWordsAreRefused, undecided_by}
+use Rattle.timetable.specs.Laws.{EndedBy, FinishedRunsWroteTheAnswer, IsAnOrder, IsFinished, IsNoOrder, IsRefused, IsUsage, OrdersAreRefusedForCause, ReadsAnOrder, RightWordsAreAnswered, TablesAreRight, ToldBytesDecide, UsageIsForWrongWords, WrongOrdersAreRefused, WrongWordsAreRefused, undecided_by}
 use Rattle.timetable.specs.declared.words.Command.{Command}
 use Rattle.timetable.specs.declared.words.Command.TheVariants.{Unknown, Sun, Order, Plain}
 
@@ -117,13 +116,13 @@ orders_are_refused_for_cause command before after run = by (kind_of run) where
   }
   by (inr (inr text)) =
       absurd (no_text_count (undecided_by command run.input) OrderRefused (λ e. cc) (λ e. cc)
-          (ends_as run (finished (undecided_by command run.input) text.text) text.answer).0)
+      (ends_as run (finished (undecided_by command run.input) text.text) text.answer).0)
 
 not_both : (input : Input) → IsAnOrder input → IsNoOrder input → ⊥
-not_both unread is no = is
-not_both (order too_long) is no = is
-not_both (order (read (Err fault))) is no = is
-not_both (order (read (Ok o))) is no = no
+not_both unread is wrong = is
+not_both (order too_long) is wrong = is
+not_both (order (read (Err fault))) is wrong = is
+not_both (order (read (Ok o))) is wrong = wrong
 
 unknown_reads_none : (command : Command) → command ≡ Unknown → ReadsAnOrder command → ⊥
 unknown_reads_none command is reads = let same : nothing ≡ an_order = subst ReadsAnOrder is reads in cc
@@ -136,6 +135,7 @@ wrong_orders_are_refused command status before after run reads wrong = by (kind_
   by_line line (inr (inl no_read)) = inr (inl no_read.is)
   by_line line (inr (inr (inl cut))) = absurd (no_part before.out after.out cut.added)
   by_line line (inr (inr (inr dry))) = inr (inr dry.is)
+
   by : Kinds command run.input → (status ≡ OrderRefused) ⊎ (status ≡ ReadFault) ⊎ (status ≡ NoMemory)
   by (inl unknown) = absurd (unknown_reads_none command unknown.words reads)
   by (inr (inl none)) =
@@ -151,13 +151,14 @@ right_words_are_answered command status before after run known accepted no_rise 
   by_text n text (inr (inl no_read)) = absurd (no_rise no_read.rose)
   by_text n text (inr (inr (inl cut))) = absurd (no_rise_out cut.rose)
   by_text n text (inr (inr (inr dry))) = inr (inr dry.is)
+
   by : Kinds command run.input → (status ≡ Done) ⊎ (status ≡ StatusOpen) ⊎ (status ≡ NoMemory)
   by (inl unknown) = absurd (known unknown.words)
   by (inr (inl none)) = absurd (not_both run.input (accepted none.reads) none.cause)
   by (inr (inr text)) =
       by_text (undecided_by command run.input) text.text
       (ways (finished (undecided_by command run.input) text.text) status _ _ _ _
-          (ends_as run (finished (undecided_by command run.input) text.text) text.answer))
+      (ends_as run (finished (undecided_by command run.input) text.text) text.answer))
 
 -- a status that is neither Done nor Open
 is_no_other : (status other : Status) → (status ≡ Done) ⊎ (status ≡ StatusOpen) → other ≢ Done → other ≢ StatusOpen → status ≢ other
@@ -180,6 +181,7 @@ pub finished_runs_wrote_the_answer : FinishedRunsWroteTheAnswer
 finished_runs_wrote_the_answer command status before after run is = by (kind_of run) where
   whole_as : (a : Answer) → answer_to command run.input ≡ a → IsWhole a status before.out after.out
   whole_as a same = finished_is_whole a status _ _ _ _ is (ways a status _ _ _ _ (ends_as run a same))
+
   by : Kinds command run.input → IsFinished command status run.input before after
   by (inl unknown) = absurd (is_no_other status Usage is (λ e. cc) (λ e. cc) (whole_as usage_answer unknown.answer).is)
   by (inr (inl none)) =
@@ -206,4 +208,4 @@ told_bytes_decide command status before after bytes input run told spelled =
     subst (λ (i : Input). EndedBy command status i before after) same (record { ends = run.ends; reports = run.reports })
 
 pub tables_are_right : TablesAreRight
-tables_are_right bytes o reads = right_table o (kept_by_rule o (orders_keep_the_rule.of_an_order bytes o reads))
+tables_are_right bytes o reads = all_tables_are_right o (orders_keep_the_rule.of_an_order bytes o reads)

@@ -1,5 +1,3 @@
-pub mod TableLemmas
-pub mod DayLemmas
 pub mod AnswerLemmas
 pub mod LawLemmas
 pub mod MemoryLemmas

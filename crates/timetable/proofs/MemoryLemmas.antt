@@ -1,5 +1,5 @@
 -- The laws, of a run over bytes in memory.
-use Rattle.std.proofs.Common.{◌≡◌, ℕ, List, Some, Ok, refl, sym, subst, arith}
+use Rattle.std.proofs.Common.{◌≡◌, ℕ, List, Some, sym, subst}
 use Rattle.command_input.proofs.InputLemmas.{inputs_agree}
 use Rattle.command_input.specs.Input.{Input, IsSpelled}
 use Rattle.outcome.specs.Streams.{Streams}
@@ -9,7 +9,7 @@ use Rattle.source_sink.specs.Outside.{Rose}
 use Rattle.timetable.proofs.LawLemmas.{finished_runs_wrote_the_answer, orders_are_refused_for_cause, right_words_are_answered, tables_are_right, told_bytes_decide, usage_is_for_wrong_words, wrong_orders_are_refused, wrong_words_are_refused}
 use Rattle.timetable.specs.Answer.{wanted_by}
 use Rattle.timetable.specs.Ended.{Ended}
-use Rattle.timetable.specs.Laws.{IsAnOrder, IsFinished, IsNoOrder, IsRefused, ReadsAnOrder}
+use Rattle.timetable.specs.Laws.{IsAnOrder, IsFinished, IsNoOrder, IsRefused}
 use Rattle.timetable.specs.Memory.{KeepsTheLaws}
 use Rattle.timetable.specs.declared.words.Command.{Command}
 use Rattle.timetable.specs.declared.words.Command.TheVariants.{Unknown}

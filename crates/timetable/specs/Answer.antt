@@ -7,7 +7,7 @@ use Rattle.order_reader.specs.Line.{order_line}
 use Rattle.outcome.specs.Answer.{Answer, finished, usage_answer}
 use Rattle.sun_verdict.specs.Line.{undecided_in, verdict_line}
 use Rattle.sun_verdict.specs.declared.request.Request.{Request}
-use Rattle.timetable.specs.Table.{table_of, undecided}
+use Rattle.order_table.specs.Trees.{table_of, undecided}
 use Rattle.timetable.specs.Words.{command_of}
 use Rattle.timetable.specs.declared.words.Command.{Command}
 use Rattle.timetable.specs.declared.words.Command.TheVariants.{Unknown, Sun, Order, Plain}

@@ -13,8 +13,8 @@ use Rattle.source_sink.specs.Reading.{IsReadToEnd}
 use Rattle.sun_verdict.specs.Line.{undecided_in}
 use Rattle.timetable.specs.Answer.{answer_to, wanted_by}
 use Rattle.timetable.specs.Ended.{Ended}
-use Rattle.timetable.specs.RightTable.{IsRightTable}
-use Rattle.timetable.specs.Table.{undecided}
+use Rattle.order_table.specs.RightTable.{IsRightTable}
+use Rattle.order_table.specs.Trees.{undecided}
 use Rattle.timetable.specs.declared.words.Command.{Command}
 use Rattle.timetable.specs.declared.words.Command.TheVariants.{Unknown, Sun, Plain}
 

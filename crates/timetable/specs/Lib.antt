@@ -1,8 +1,3 @@
-pub mod Table
-pub mod Days
-pub mod Ready
-pub mod Printing
-pub mod RightTable
 pub mod Words
 pub mod Answer
 pub mod Ended

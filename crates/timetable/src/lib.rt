@@ -7,7 +7,6 @@ pub mod laws;
 mod memory;
 mod orders;
 mod run;
-mod tables;
 mod words;
 
 pub use memory::run_in_memory;

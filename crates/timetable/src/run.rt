@@ -8,13 +8,13 @@ ghost use Rattle.outcome.specs.Streams.{stream, streams};
 ghost use Rattle.sun_verdict.specs.Truth.{IsTrueOfSky};
 ghost use Rattle.timetable.specs.Answer.{answer_to, wanted_by};
 ghost use Rattle.timetable.specs.Ended.{Ended};
-ghost use Rattle.timetable.specs.RightTable.{IsRightTable};
+ghost use Rattle.order_table.specs.RightTable.{IsRightTable};
 ghost use Rattle.timetable.specs.Words.{IsCommand, command_of};
 
 use crate::orders::write_line;
-use crate::tables::write_table;
 use crate::words::{Command, command_in};
 use command_input::order_from;
+use order_table::write_table;
 use outcome::{Ending, Status, ending_of};
 use source_sink::{Sink, Source, write_all};
 use std::alloc::Global;

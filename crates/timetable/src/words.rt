@@ -31,6 +31,7 @@ fn alone(rest: &[String], command: Command) -> Command
 }
 
 /// `sun`, where the words behind it are a request.
+#[tactic(auto, unfolding(crate::specs::Words::sun_command))]
 fn sun(rest: &[String]) -> Command
     ensures value { result ≡ sun_command (map string_bytes rest.now) }
     ensures range { IsCommand result }

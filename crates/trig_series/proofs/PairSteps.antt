@@ -1,5 +1,5 @@
 -- Two terms at a time: from a sum of j terms to one of j + 2.
-use Rattle.std.proofs.Common.{◌≡◌, ℕ, ◌+◌, ◌*◌, ◌≤◌, ap, ap₂, ◌∙◌, arith}
+use Rattle.std.proofs.Common.{◌≡◌, ℕ, ◌+◌, ◌*◌, ◌≤◌, ap, ◌∙◌, arith}
 use Rattle.fixed_interval.specs.Grid.{Ends, UNIT, reach, grid_negated, grid_sum, grid_difference, grid_product, grid_divide_by}
 use Rattle.trig_series.specs.Magnitudes.{ends_of}
 use Rattle.trig_series.specs.PartialSum.{HasTerms}

@@ -1,4 +1,4 @@
-use Rattle.std.proofs.Common.{rules, length, drop, take, get_or, refl, sym, ◌∙◌, string_bytes}
+use Rattle.std.proofs.Common.{rules, sym, ◌∙◌, string_bytes}
 use Rattle.covering.proofs.Running.{letter_after, next_run, one_more}
 use Rattle.covering.proofs.runs.runs_text.Goals.{then-letter-run, else-letter-run+in_ok-write_run}
 use Rattle.covering.proofs.runs.runs_text.Goals as goal

@@ -1,4 +1,3 @@
-use Rattle.std.proofs.Common.{subst, sym}
 use Rattle.timetable.proofs.ExampleLemmas.{long_is_refused, order_alone}
 use Rattle.timetable.proofs.examples.long_order.Goals as goal
 

@@ -1,5 +1,5 @@
-use Rattle.std.proofs.Common.{◌≡◌, ◌+◌, ◌*◌, ap, ap₂, sym, ◌∙◌, arith}
-use Rattle.fixed_interval.specs.Grid.{Ends, grid_sum, grid_difference}
+use Rattle.std.proofs.Common.{◌+◌, ap, ap₂, sym, ◌∙◌, arith}
+use Rattle.fixed_interval.specs.Grid.{grid_sum, grid_difference}
 use Rattle.trig_series.specs.Magnitudes.{ends_of}
 use Rattle.trig_series.specs.Series.{divisor}
 use Rattle.trig_series.specs.Short.{ends_of as short_ends}

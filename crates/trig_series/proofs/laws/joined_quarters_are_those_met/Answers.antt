@@ -1,4 +1,3 @@
-use Rattle.fixed_interval.specs.Fraction.{over}
 use Rattle.trig_series.proofs.ExactQuarters.{met_between, between_met}
 use Rattle.trig_series.proofs.QuarterLaws.{meets_between, first_no_later, last_no_earlier}
 use Rattle.trig_series.proofs.laws.joined_quarters_are_those_met.Goals as goal

@@ -2,7 +2,7 @@ use Rattle.std.proofs.Common.{◌≡◌, ◌<◌, ◌≤ℤ◌, ◌∙◌, ap, s
 use Rattle.std.specs.Int.{w128, int_gap}
 use Rattle.std.proofs.lemmas.Int.{ints}
 use Rattle.fixed_interval.specs.Fraction.{over}
-use Rattle.fixed_interval.specs.Grid.{Ends, grid_hull}
+use Rattle.fixed_interval.specs.Grid.{grid_hull}
 use Rattle.fixed_interval.specs.Interval.{ends}
 use Rattle.fixed_interval.proofs.Bits.{bits_of}
 use Rattle.trig_series.specs.Angle.{range_of}

@@ -11,4 +11,4 @@ returns c =
     let sky = c.args.self.now in
     c.judge_for.ensures
     ∙ ap (λ (row : Row). verdict_on grid_sun row sky.district c.args.t.cell)
-    (read_row sky.problems c.args.t.problem c.index-self-t.result (omega (arith, length-map sky.problems row_of, c.requires.known)))
+    (read_row sky.problems c.args.t.problem c.index-self-k.result (omega (arith, length-map sky.problems row_of, c.requires.known)))

@@ -1,6 +1,5 @@
 -- Ends within 2^62 lose nothing in the words of the result.
 use Rattle.std.proofs.Common.{sym, ◌∙◌, arith, le_trans}
-use Rattle.std.proofs.lemmas.Int.{ints}
 use Rattle.fixed_interval.proofs.GridLaws.{grid_sum-is}
 use Rattle.fixed_interval.proofs.Sizes.{sum_ordered, reach-sum}
 use Rattle.trig_series.specs.Short.{ends_of}
