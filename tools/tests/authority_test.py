@@ -18,9 +18,11 @@ def seen(output):
 
 
 def commands(page):
-    """The commands of a page's blocks, with the lines below them."""
+    """The commands of a page's blocks, with the lines below them. A block that names a language is not followed."""
     found = []
-    for block in re.findall(r'^```\n(.*?)^```\n', page, re.M | re.S):
+    for language, block in re.findall(r'^```([a-z]*)\n(.*?)^```\n', page, re.M | re.S):
+        if language:
+            continue
         for part in re.split(r'^\$ ', block, flags=re.M)[1:]:
             command, _, output = part.partition('\n')
             found.append((command, output))
