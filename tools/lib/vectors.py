@@ -10,6 +10,7 @@ os.environ['PROJ_NETWORK'] = 'OFF'
 from osgeo import gdal, ogr, osr  # noqa: E402 (the line above is read when these load)
 
 gdal.UseExceptions()
+ogr.UseExceptions()
 osr.UseExceptions()
 # Formats that are read from the file alone: none follows addresses within it.
 FORMATS = ['ESRI Shapefile', 'GPKG', 'GeoJSON', 'GeoJSONSeq', 'TopoJSON', 'KML', 'LIBKML', 'FlatGeobuf', 'MapInfo File', 'OSM',
@@ -146,6 +147,14 @@ def beside(polygons):
             for polygon, place in zip(polygons, middles)]
 
 
+def features_of(layer, path):
+    """All features; one that can't be read is stopped, not left out."""
+    try:
+        yield from layer
+    except RuntimeError as error:
+        raise Fault(f'{path}: a feature is not read: {str(error) or "the file is damaged"}')
+
+
 def read(path, layer_name=None, where=None, system_name=None):
     """All polygons of the chosen features, and how many features there were."""
     source = open_file(path)
@@ -156,7 +165,7 @@ def read(path, layer_name=None, where=None, system_name=None):
         raise Fault(f'--where {where}: {error}')
     system, target = system_of(layer, path, system_name), wgs_84()
     polygons, count = [], 0
-    for feature in layer:
+    for feature in features_of(layer, path):
         label = f'{path}: feature {feature.GetFID()}'
         shape = feature.GetGeometryRef()
         count += 1

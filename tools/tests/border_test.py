@@ -3,8 +3,10 @@ import collections
 import glob
 import gzip
 import json
+import os
 import random
 import subprocess
+import zipfile
 from decimal import Decimal
 
 import geojson
@@ -159,18 +161,25 @@ class BorderTest(ToolTest):
         self.done('border', 'a.osm', '--out', 'a.geojson')
         self.assertEqual(geojson.box(polygons_of(self.path('a.geojson'))), (39000000, 21000000, 40000000, 22000000))
 
+    def cut_off(self, name):
+        """A shapefile of the data without the last bytes of its positions."""
+        with zipfile.ZipFile(data(name + '.zip')) as whole:
+            whole.extractall(self.folder)
+        os.truncate(self.path(name + '.shp'), os.path.getsize(self.path(name + '.shp')) - 100)
+        return self.path(name + '.shp')
+
     def test_wrong_files_are_stopped(self):
         line = self.write('line.geojson', '{"type":"LineString","coordinates":[[39,21],[40,21]]}')
         north = self.write('north.geojson', '{"type":"Polygon","coordinates":[[[20,66],[21,66],[21,67],[20,66]]]}')
         far = self.write('far.vrt', '<OGRVRTDataSource><OGRVRTLayer name="a"><SrcDataSource>/vsicurl/http://127.0.0.1:1/a'
                          '</SrcDataSource></OGRVRTLayer></OGRVRTDataSource>')
         bare = self.write('bare.csv', 'WKT,name\n"POLYGON((39 21,40 21,40 22,39 21))",a\n')
-        turkey = data('turkey.geojson.gz')
+        turkey, cut = data('turkey.geojson.gz'), self.cut_off('najran_utm38')
         for words, said in (((line,), 'may hold polygons'), ((north,), 'latitude 67'), ((bare,), 'no coordinate system'),
                             (('none.shp',), 'no such file'), ((far,), 'reads no borders'),
                             ((example('bahrain.txt'),), 'reads no borders'),
                             ((turkey, '--where', "name='Nowhere'"), 'no polygon among 0 features'),
-                            ((turkey, '--where', 'nam = 1'), '--where'), ((turkey, '--layer', 'x'), 'no layer x'),
+                            ((turkey, '--where', "nmae='Van'"), '--where nmae'), ((cut,), 'is not read'), ((turkey, '--layer', 'x'), 'no layer x'),
                             ((turkey, '--crs', 'EPSG:4326'), 'leave --crs out'), ((bare, '--crs', 'EPSG:x'), '--crs EPSG:x')):
             with self.subTest(said):
                 run = self.run_tool('border', *words)
