@@ -5,8 +5,9 @@ import subprocess
 
 from outcome import TOP, Fault
 
-HERE = os.path.join(TOP, 'timetable')
-OWN = shlex.quote(HERE) if os.access(HERE, os.X_OK) and os.path.isfile(HERE) else 'timetable'
+# The script of the repository, or the program that was installed with the tools: PREFIX/bin beside PREFIX/share/timetable.
+NEAR = [os.path.join(TOP, 'timetable'), os.path.normpath(os.path.join(TOP, '../../bin/timetable'))]
+OWN = next((shlex.quote(path) for path in NEAR if os.access(path, os.X_OK) and os.path.isfile(path)), 'timetable')
 
 
 def add_option(parser):
