@@ -13,8 +13,9 @@ trap 'rm -rf "$work"' EXIT
 program=${1:--}
 shift || true
 if [ "$program" = - ]; then
+    # The script builds it where it isn't built yet.
     "$top/timetable" sun 0 0 0 0 >/dev/null
-    program=$top/crates/timetable_cli/out/timetable_cli
+    program=$top/built/timetable
 fi
 kernels=$top/crates/kernel_bench/out/kernel_bench
 # One run builds it.
@@ -45,6 +46,10 @@ measure() {
     echo "$1: $seconds s, $cells cells judged$counted; $(tail -n 1 "$work/table")"
 }
 
-for name in ${@:-$(python3 "$top/bench/standard_orders.py")}; do
+if [ $# -eq 0 ]; then
+    mapfile -t names < <(python3 "$top/bench/standard_orders.py")
+    set -- "${names[@]}"
+fi
+for name in "$@"; do
     measure "$name"
 done
