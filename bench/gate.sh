@@ -1,5 +1,5 @@
 #!/usr/bin/env bash
-# bench/gate.sh [--whole]: what the gate costs. In a fresh clone each crate's first check alone (`rt lib`, one job, processor
+# bench/gate.sh [--whole]: what the gate costs. In a fresh clone each crate's first check alone (`rt check`, one job, processor
 # seconds), the longest chain of crates that stand on each other, and the sum; with --whole also a cold `rt ci`: its elapsed
 # and processor minutes.
 set -euo pipefail
