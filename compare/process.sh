@@ -44,4 +44,7 @@ for command in $commands; do
         ;;
     esac
 done
+if command -v mandoc >/dev/null; then
+    if mandoc -Tlint "$top/docs/timetable.1"; then echo "same: the manual page's form"; else different=1; fi
+fi
 exit "$different"
