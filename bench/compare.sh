@@ -4,7 +4,11 @@
 # The least processor time of each counts.
 set -euo pipefail
 top=$(cd "$(dirname "$0")/.." && pwd)
-plain_source=$top/bench/plain/$1.rs
+plain_source=$top/bench/plain/${1-}.rs
+if [ $# -lt 3 ] || [ ! -f "$plain_source" ]; then
+    echo "usage: bench/compare.sh series|region KERNEL COUNT [KERNEL COUNT].." >&2
+    exit 2
+fi
 shift
 if ! command -v rustc >/dev/null; then
     echo "nothing compared: rustc is not on the PATH"
