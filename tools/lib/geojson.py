@@ -25,8 +25,9 @@ def pairs_once(pairs):
 
 def read_json(path):
     """A file's JSON value, its numbers exact."""
+    text = read_text(path)
     try:
-        return json.loads(read_text(path), parse_float=Decimal, object_pairs_hook=pairs_once)
+        return json.loads(text, parse_float=Decimal, object_pairs_hook=pairs_once)
     except json.JSONDecodeError as error:
         raise Fault(f'{path}: no JSON at line {error.lineno}, column {error.colno}: {error.msg}. '
                     'A shapefile, GeoPackage or KML is made into a border by tools/border')

@@ -96,6 +96,7 @@ class OrderTest(ToolTest):
                 self.stopped(said, 'order', '--border', self.border(), '--method', 'mwl', '--asr', 'standard', '--zone', '+03:00',
                              *words)
         self.assertEqual(self.run_tool('order', '--border', 'x', '--method', 'mecca').returncode, 2)
+        self.assertEqual(self.run_tool('order', '--look', example('najran.json'), '--year', '2025').returncode, 2)
         self.stopped('--zone is missing', 'order', '--border', self.border(), *WORDS)
 
     def test_a_year_has_all_its_days_and_ramadan_its_isha(self):
@@ -106,7 +107,7 @@ class OrderTest(ToolTest):
                          ('2024-01-01', 366, [['2024-03-11', '2024-04-09']], 1293))
 
     def test_orders_that_stand_are_looked_at(self):
-        for name in ('bahrain.json', 'najran.json', 'najran-city.json', 'qina-hole.json'):
+        for name in ('makkah.json', 'bahrain.json', 'najran.json', 'najran-city.json', 'qina-hole.json'):
             self.assertIn('mean noon 1', self.done('order', '--look', example(name))[1])
 
     def test_members_that_the_program_passes_over_are_stopped(self):
