@@ -14,7 +14,8 @@ LEAST_IN_A_ROW = 4
 WORDS = dict(zip(('fajr', 'fajr_end', 'dhuhr', 'asr', 'maghrib', 'maghrib_end', 'isha'), tables.COLUMNS))
 MEANINGS = (
     'Each minute is safe at every place of the district: a beginning is the first minute from which it is, an end (in italics) '
-    'the last until which it is.',
+    'the last until which it is. This is meant by the formulas of the program, from which the sky itself may lie seconds apart, '
+    'and in far latitudes minutes.',
     '+HH:MM is on the day after, -HH:MM on the day before. **:** every minute of the column\'s twelve hours is safe. --:-- even '
     'the last of them is not (for an end: the first). ??:?? undecided: what is safe is said below.')
 
