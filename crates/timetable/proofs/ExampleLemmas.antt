@@ -4,7 +4,7 @@ use Rattle.std.specs.Prelude.{pos}
 use Rattle.command_input.specs.Input.{an_order, limit_of, order, too_long, unread}
 use Rattle.outcome.specs.Streams.{Streams}
 use Rattle.outcome.specs.declared.status.Status.{Status}
-use Rattle.outcome.specs.declared.status.Status.TheVariants.{Done, OrderRefused, ReadFault, NoMemory}
+use Rattle.outcome.specs.declared.status.Status.TheVariants.{Done, OrderRefused, NoMemory}
 use Rattle.outcome.specs.declared.status.Status.TheVariants.{Open as StatusOpen}
 use Rattle.sun_verdict.specs.Decimals.{digits_in, millionths_in}
 use Rattle.sun_verdict.specs.Request.{angle_in, coordinate_in, minute_in, question_in, request_in}
@@ -32,7 +32,7 @@ unfolding command_of sun_command request_in minute_in coordinate_in question_in 
 sun_with_four name minute lon lat what is_name is_minute is_lon is_lat is_what = rw (is_name, is_minute, is_lon, is_lat, is_what) refl
 
 module _ (command : Command) (bytes : List ℕ) (status : Status) (before after : Streams) (keeps : KeepsTheLaws command bytes status before after) where
-  pub long_is_refused : command ≡ Order → limit_of an_order < length bytes → (status ≡ OrderRefused) ⊎ (status ≡ ReadFault) ⊎ (status ≡ NoMemory)
+  pub long_is_refused : command ≡ Order → limit_of an_order < length bytes → (status ≡ OrderRefused) ⊎ (status ≡ NoMemory)
   long_is_refused is long =
       let k = subst (λ (it : Command). KeepsTheLaws it bytes status before after) is keeps in
       k.wrong_order refl (order too_long) long tt

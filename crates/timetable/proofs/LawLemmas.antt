@@ -13,7 +13,7 @@ use Rattle.outcome.specs.Streams.{Stream, Streams}
 use Rattle.outcome.specs.declared.status.Status.{Status}
 use Rattle.outcome.specs.declared.status.Status.TheVariants.{Done, Usage, OrderRefused, ReadFault, WriteFault, NoMemory}
 use Rattle.outcome.specs.declared.status.Status.TheVariants.{Open as StatusOpen}
-use Rattle.source_sink.specs.Outside.{Adds}
+use Rattle.source_sink.specs.Outside.{Adds, Rose}
 use Rattle.source_sink.specs.Reading.{IsReadToEnd}
 use Rattle.timetable.specs.Answer.{answer_to, wanted_by}
 use Rattle.timetable.specs.Ended.{Ended}
@@ -130,13 +130,14 @@ unknown_reads_none command is reads = let same : nothing ≡ an_order = subst Re
 pub wrong_orders_are_refused : WrongOrdersAreRefused
 wrong_orders_are_refused command status before after run reads wrong = by (kind_of run) where
   by_line : (line : List ℕ) → Ways (refusal OrderRefused line) status before.source after.source before.out after.out →
-      (status ≡ OrderRefused) ⊎ (status ≡ ReadFault) ⊎ (status ≡ NoMemory)
+      (status ≡ OrderRefused) ⊎ ((status ≡ ReadFault) × Rose before.source.faults after.source.faults) ⊎ (status ≡ NoMemory)
   by_line line (inl whole) = inl whole.is
-  by_line line (inr (inl no_read)) = inr (inl no_read.is)
+  by_line line (inr (inl no_read)) = inr (inl (no_read.is, no_read.rose))
   by_line line (inr (inr (inl cut))) = absurd (no_part before.out after.out cut.added)
   by_line line (inr (inr (inr dry))) = inr (inr dry.is)
 
-  by : Kinds command run.input → (status ≡ OrderRefused) ⊎ (status ≡ ReadFault) ⊎ (status ≡ NoMemory)
+  by : Kinds command run.input →
+      (status ≡ OrderRefused) ⊎ ((status ≡ ReadFault) × Rose before.source.faults after.source.faults) ⊎ (status ≡ NoMemory)
   by (inl unknown) = absurd (unknown_reads_none command unknown.words reads)
   by (inr (inl none)) =
       by_line none.line (ways (refusal OrderRefused none.line) status _ _ _ _ (ends_as run (refusal OrderRefused none.line) none.answer))

@@ -68,11 +68,12 @@ abbrev pub OrdersAreRefusedForCause : Type 0
 OrdersAreRefusedForCause =
     (command : Command) (before after : Streams) → (run : Ended command OrderRefused before after) → IsRefused command run.input before after
 
--- Such a command answers OrderRefused to each input that is no order, a read fault and want of memory aside.
+-- Such a command answers OrderRefused to each input that is no order, a read fault that was counted and want of memory aside.
 abbrev pub WrongOrdersAreRefused : Type 0
 WrongOrdersAreRefused =
     (command : Command) (status : Status) (before after : Streams) → (run : Ended command status before after) →
-    ReadsAnOrder command → IsNoOrder run.input → (status ≡ OrderRefused) ⊎ (status ≡ ReadFault) ⊎ (status ≡ NoMemory)
+    ReadsAnOrder command → IsNoOrder run.input →
+    (status ≡ OrderRefused) ⊎ ((status ≡ ReadFault) × Rose before.source.faults after.source.faults) ⊎ (status ≡ NoMemory)
 
 -- Right words, and an order where the command reads one, are answered where no fault was counted, want of memory aside.
 abbrev pub RightWordsAreAnswered : Type 0

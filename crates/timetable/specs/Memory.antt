@@ -5,7 +5,7 @@ use Rattle.order_reader.specs.Asked.{Asked}
 use Rattle.order_table.specs.RightTable.{IsRightTable}
 use Rattle.outcome.specs.Streams.{Streams}
 use Rattle.outcome.specs.declared.status.Status.{Status}
-use Rattle.outcome.specs.declared.status.Status.TheVariants.{Done, Open, Usage, OrderRefused, ReadFault, NoMemory}
+use Rattle.outcome.specs.declared.status.Status.TheVariants.{Done, Open, Usage, OrderRefused, NoMemory}
 use Rattle.timetable.specs.Answer.{wanted_by}
 use Rattle.timetable.specs.Laws.{EndedBy, IsAnOrder, IsFinished, IsNoOrder, IsRefused, IsUsage, ReadsAnOrder}
 use Rattle.timetable.specs.declared.words.Command.{Command}
@@ -17,7 +17,7 @@ pub record KeepsTheLaws (command : Command) (bytes : List ℕ) (status : Status)
   pub wrong_words : command ≡ Unknown → IsUsage status before after
   pub refused : status ≡ OrderRefused → (input : Input) → IsSpelled (wanted_by command) bytes input → IsRefused command input before after
   pub wrong_order : ReadsAnOrder command → (input : Input) → IsSpelled (wanted_by command) bytes input → IsNoOrder input →
-      (status ≡ OrderRefused) ⊎ (status ≡ ReadFault) ⊎ (status ≡ NoMemory)
+      (status ≡ OrderRefused) ⊎ (status ≡ NoMemory)
   pub answered : command ≢ Unknown → (input : Input) → IsSpelled (wanted_by command) bytes input → (ReadsAnOrder command → IsAnOrder input) →
       (status ≡ Done) ⊎ (status ≡ Open) ⊎ (status ≡ NoMemory)
   pub finished : (status ≡ Done) ⊎ (status ≡ Open) → (input : Input) → IsSpelled (wanted_by command) bytes input →

@@ -17,7 +17,7 @@ pub fn no_words(alloc: Global, out: &mut SureSink, err: &mut SureSink) -> Status
     run_in_memory(alloc, &words, &mut source, out, err)
 }
 
-/// More bytes than an order may have: they are refused, a read fault and want of memory aside.
+/// More bytes than an order may have: they are refused, want of memory aside.
 pub fn long_order(
     alloc: Global,
     bytes: Vec<u8>,
@@ -25,8 +25,7 @@ pub fn long_order(
     err: &mut SureSink,
 ) -> Result<Status, NoMemory>
     requires { limit_of an_order < length bytes.items }
-    ensures { IfOk result (λ status.
-        (status ≡ Status.OrderRefused) ⊎ (status ≡ Status.ReadFault) ⊎ (status ≡ Status.NoMemory)) }
+    ensures { IfOk result (λ status. (status ≡ Status.OrderRefused) ⊎ (status ≡ Status.NoMemory)) }
 {
     let words = [String::from_str(alloc, "order")?];
     let mut source = SureSource::new(bytes);
