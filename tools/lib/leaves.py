@@ -11,13 +11,17 @@ MONTHS = ('January', 'February', 'March', 'April', 'May', 'June', 'July', 'Augus
 WEEKDAYS = ('Mo', 'Tu', 'We', 'Th', 'Fr', 'Sa', 'Su')
 FRIDAY = 4
 LEAST_IN_A_ROW = 4
-WORDS = dict(zip(('fajr', 'fajr_end', 'dhuhr', 'asr', 'maghrib', 'maghrib_end', 'isha'), tables.COLUMNS))
-MEANINGS = (
-    'Each minute is safe at every place of the district: a beginning is the first minute from which it is, an end (in italics) '
-    'the last until which it is. This is meant by the formulas of the program, from which the sky itself may lie seconds apart, '
-    'and in far latitudes minutes.',
-    '+HH:MM is on the day after, -HH:MM on the day before. **:** every minute of the column\'s twelve hours is safe. --:-- even '
-    'the last of them is not (for an end: the first). ??:?? undecided: what is safe is said below.')
+LEAST = ('Each minute is safe at every place of the district: a beginning is the first minute from which it is, an end (in '
+         'italics) the last until which it is. ')
+FORMULAS = ('This is meant by the formulas of the program, from which the sky itself may lie seconds apart, and in far latitudes '
+            'minutes.')
+MOVED = ('For safety against the sky itself the minutes of this sheet are moved by {0}: each beginning is printed {0} later, '
+         'each end (in italics) {0} earlier. So they are not the first minutes (for an end the last) that are safe. A beginning '
+         'that is later within its column\'s twelve hours, and an end that is earlier within them, is still safe at every place '
+         'of the district; **:** is not moved. ')
+MARKS = ('+HH:MM is on the day after, -HH:MM on the day before. **:** every minute of the column\'s twelve hours is safe. '
+         '--:-- even the last of them is not (for an end: the first){}. ??:?? undecided: what is safe is said below.')
+OUTSIDE = ', or the moved minute would lie outside them'
 
 
 def cell(column, entry):
@@ -41,21 +45,29 @@ def month_table(days, names, with_weekday):
             f'<thead><tr><th class="day"></th>{heads}</tr></thead>\n<tbody>\n{rows}\n</tbody></table>')
 
 
-def open_text(date, line):
+def open_text(date, line, margin):
     """A line below a day in a reader's words."""
     word = line.split()
     if word[0] != 'open':
         return f'{date}: {line}'
-    column, safe = WORDS[word[1]], line[line.index(' safe ') + 6:][:6].strip()
+    column, safe = tables.SPELLED[word[1]], line[line.index(' safe ') + 6:][:6].strip()
     if safe == '--:--':
         return f'{date} {column}: no minute is shown safe'
-    return f'{date} {column}: safe {"until" if column in tables.ENDS else "from"} {safe}; the minute next to it is undecided'
+    rest = 'this minute is moved as all are' if margin else 'the minute next to it is undecided'
+    return f'{date} {column}: safe {"until" if column in tables.ENDS else "from"} {safe}; {rest}'
+
+
+def meanings(margin):
+    """What minutes and marks mean on a sheet whose minutes are moved by a margin, or by none."""
+    if not margin:
+        return [LEAST + FORMULAS, MARKS.format('')]
+    return [MOVED.format(f'{margin} minute{"s" if margin > 1 else ""}') + FORMULAS, MARKS.format(OUTSIDE)]
 
 
 def footer(table, days, hashes):
     """What the marks mean, what is undecided, and what the sheet was made of."""
-    lines = [escape(text) for text in MEANINGS]
-    lines += [escape(open_text(day.date, line)) for day in days for line in day.below]
+    lines = [escape(text) for text in meanings(table.margin)]
+    lines += [escape(open_text(day.date, line, table.margin)) for day in days for line in day.below]
     lines.append(f'Order: <code>{escape(table.head_line)}</code>')
     lines += [f'{escape(label)}, SHA-256: <code>{value}</code>' for label, value in hashes]
     return '<footer>%s</footer>' % ''.join(f'<p>{line}</p>' for line in lines)

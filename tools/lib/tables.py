@@ -7,6 +7,7 @@ from outcome import Fault, read_text
 
 COLUMNS = ('fajr', 'f.end', 'dhuhr', 'asr', 'magh', 'm.end', 'isha')
 ENDS = ('f.end', 'm.end')
+SPELLED = dict(zip(('fajr', 'fajr_end', 'dhuhr', 'asr', 'maghrib', 'maghrib_end', 'isha'), COLUMNS))
 TITLE = 'prayer timetable 1'
 NAMES = 'date      ' + ''.join(name.rjust(7) for name in COLUMNS)
 HEAD = re.compile(r'from (?P<from>[0-9]{4}-[0-9]{2}-[0-9]{2}) days (?P<days>[0-9]+) method (?P<method>[a-z]+) '
@@ -36,6 +37,7 @@ class Table:
     head: dict
     head_line: str
     days: list
+    margin: int = 0
 
 
 def minute_of(entry):
