@@ -28,6 +28,7 @@ class Order:
     height: int
     late: list
     sun: str
+    night: object
     polygons: list
 
     def interval(self, day):
@@ -94,6 +95,12 @@ def stop_on_wrong_members(order):
     stop_on_wrong_late(order.get('late_isha', []), order['method'])
 
 
+def refused(sun, night):
+    """What an order may ask for and today's program refuses, member by member: the sun meeus and each rule for nights."""
+    found = [('sun', sun)] if sun == 'meeus' else []
+    return found + [('night', night)] if night else found
+
+
 def whole(value):
     """A number spelled with a point or an exponent that is a whole one, as that."""
     if isinstance(value, Decimal) and -20 < value.adjusted() < 7 and value == int(value):
@@ -122,4 +129,4 @@ def read(path):
     geojson.stop_beyond_limits(polygons, path)
     late = [tuple(date_of(text, 'late_isha') for text in pair) for pair in order.get('late_isha', [])]
     return Order(days, order['method'], order['asr'], order['zone'], dict(zip(days, offsets)), order.get('height', 0), late,
-                 order.get('sun', 'usno'), polygons)
+                 order.get('sun', 'usno'), order.get('night'), polygons)

@@ -9,9 +9,10 @@ import re
 import shlex
 import subprocess
 import sys
+import unittest
 
 import orders
-from common import PROGRAM, SECONDS, TOP, ToolTest, data, example, needs_zones, read
+from common import PROGRAM, REFERENCE, SECONDS, TOP, ToolTest, data, example, needs_zones, read
 from outcome import Fault
 
 sys.path.append(os.path.join(TOP, 'compare'))
@@ -109,6 +110,26 @@ class OrderTest(ToolTest):
     def test_orders_that_stand_are_looked_at(self):
         for name in ('makkah.json', 'bahrain.json', 'najran.json', 'najran-city.json', 'qina-hole.json'):
             self.assertIn('mean noon 1', self.done('order', '--look', example(name))[1])
+
+    def test_what_the_program_refuses_today_is_written_and_warned_of(self):
+        for words, names in ((('--sun', 'usno'), []), (('--sun', 'meeus'), ['sun meeus']), (('--night', 'half'), ['night half']),
+                             (('--sun', 'meeus', '--night', 'angle'), ['sun meeus', 'night angle'])):
+            with self.subTest(words):
+                text, told = self.order(*WORDS, '--zone', '+03:00', *words)
+                made = self.write('made.json', text)
+                looked = self.done('order', '--look', made)[1]
+                for warned in (told, looked):
+                    self.assertEqual(re.findall('warning: (.*) is not built yet', warned), names)
+                self.assertEqual(json.loads(text).get('night'), words[-1] if '--night' in words else None)
+
+    @unittest.skipIf(PROGRAM == REFERENCE, 'the program is not built: what it refuses is not looked at')
+    def test_the_warning_of_what_is_refused_is_true(self):
+        for sun in orders.SUNS:
+            for night in (None, *orders.NIGHTS):
+                order = {**json.loads(read(example('makkah.json'))), 'sun': sun, **({'night': night} if night else {})}
+                with self.subTest(sun=sun, night=night):
+                    is_refused = self.canonical(self.write('o.json', json.dumps(order))) is None
+                    self.assertEqual(is_refused, bool(orders.refused(sun, night)))
 
     def test_members_that_the_program_passes_over_are_stopped(self):
         text = read(example('najran.json'))
