@@ -1,0 +1,11 @@
+// Which command the words behind the program's name ask for; the options of a command are read by `clap`.
+// Contract: `command_in` answers exactly the command that the words spell, each with what it asks.
+#![tactic(auto)]
+
+mod command;
+mod number;
+mod options;
+mod words;
+
+pub use command::Command;
+pub use words::{command_in, without_workers};
