@@ -1,0 +1,16 @@
+-- The entries of a day, whoever searches.
+use Rattle.std.specs.Prelude.{List, map}
+use Rattle.cell_split.specs.declared.cell.Cell.{Cell}
+use Rattle.cell_split.specs.declared.verdict.Entry.{Entry}
+use Rattle.method_table.specs.Row.{Row, row_of}
+use Rattle.order_table.specs.Trees.{entries_of}
+use Rattle.order_table.specs.declared.day.Day.{Day}
+use Rattle.region.specs.Rings.{Polygon}
+use Rattle.year_table.specs.declared.head.SunChoice.TheVariants.{Usno}
+
+abbrev pub rows_on : Day → List Row
+rows_on day = map row_of day.problems
+
+-- of the observatory's sky over a district, seven to a day
+abbrev pub entries_on : List Polygon → Cell → Day → List Entry
+entries_on polygons root day = entries_of Usno polygons root (rows_on day)

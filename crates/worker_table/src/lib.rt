@@ -1,0 +1,7 @@
+// The table of an order by several workers: a search serves several days, and their lines are written before the next one.
+// Contract: `search_days` answers the entries of each day's own trees; `write_table` writes exactly the text of the order's table.
+#![tactic(auto)]
+
+mod search;
+
+pub use search::search_days;
