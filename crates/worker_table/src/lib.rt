@@ -3,5 +3,7 @@
 #![tactic(auto)]
 
 mod search;
+mod table;
 
 pub use search::search_days;
+pub use table::write_table;

@@ -1,4 +1,4 @@
-use Rattle.std.proofs.Common.{◌≡◌, ◌++◌, All, drop, length, map}
+use Rattle.std.proofs.Common.{◌≡◌, ◌++◌, All, drop, map}
 use Rattle.order_table.specs.Printing.{IsPrintable}
 use Rattle.worker_table.specs.Entries.{entries_on}
 use Rattle.worker_table.proofs.search.entries_of_days.Given as goal

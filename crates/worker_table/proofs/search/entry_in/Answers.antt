@@ -1,4 +1,4 @@
-use Rattle.std.proofs.Common.{◌∙◌, arith, length, map}
+use Rattle.std.proofs.Common.{◌∙◌, arith, map}
 use Rattle.std.proofs.lemmas.List.{length-map}
 use Rattle.days_sky.specs.Days.{rows_of_day}
 use Rattle.days_sky.proofs.DayLemmas.{count_of_rows, whole_days}

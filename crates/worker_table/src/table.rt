@@ -1,0 +1,159 @@
+// The table of an order, some of its days at a time.
+ghost use Rattle.std.specs.Prelude.{◌≡◌, ◌≤◌, ◌*◌, All, IfOk, length, map};
+ghost use Rattle.order_reader.specs.Asked.{asked_of};
+ghost use Rattle.order_table.specs.Made.{searched};
+ghost use Rattle.order_table.specs.Printing.{IsPrintable};
+ghost use Rattle.order_table.specs.Ready.{found_in, front_of};
+ghost use Rattle.order_table.specs.RightTable.{IsRightTable};
+ghost use Rattle.order_table.specs.Table.{days_text, days_undecided};
+ghost use Rattle.order_table.specs.Trees.{table_of, undecided};
+ghost use Rattle.outcome.specs.Writing.{Writes};
+ghost use Rattle.worker_table.specs.Entries.{entries_on};
+
+use crate::search::search_days;
+use cell_judge::Sky;
+use cell_split::Entry;
+use order_reader::Order;
+use order_table::{Day, Ready, prepare, write_day, write_end};
+use outcome::Stop;
+use source_sink::{Sink, write_all};
+use std::alloc::Global;
+use std::sync::Wait;
+use std::thread::Threads;
+use steal_pool::Gate;
+
+/// How many days one search serves: so many that starting its workers is a small part of its work, and so few that the
+/// first lines of a year's table come long before its last day is searched.
+const DAYS_TOGETHER: usize = 8;
+
+/// Writes the lines of these days with their entries; answers how many of them are undecided.
+fn write_days<K: Sink>(
+    alloc: Global,
+    sky: &Sky,
+    days: &[Day],
+    entries: &[[Entry; 7]],
+    out: &mut K,
+) -> Result<u32, Stop>
+    requires entries { entries.now ≡ map (entries_on sky.now.district sky.now.root) days.now }
+    requires printable { All (All IsPrintable) entries.now }
+    requires few { length days.now ≤ 366 }
+    ensures writes { Writes (days_text (map (searched sky.now.district sky.now.root) days.now)) result
+        (K.faults out.old) (K.faults out.new) (K.held out.old) (K.held out.new) }
+    ensures count { IfOk result (λ count. count ≡ days_undecided (map (searched sky.now.district sky.now.root) days.now)) }
+    ensures few { IfOk result (λ count. count ≤ 7 * length days.now) }
+{
+    let mut undecided = 0;
+    for (i, day) in days.iter().enumerate() {
+        match write_day(alloc, day, &entries[i], out) {
+            Ok(count) => undecided += count,
+            Err(stop) => return Err(stop),
+        }
+    }
+    Ok(undecided)
+}
+
+/// Searches these days together and writes their lines; answers how many of their entries are undecided.
+fn write_together<R: Threads + Wait + Sync, K: Sink, G: Gate + Sync>(
+    rt: &R,
+    alloc: Global,
+    sky: &Sky,
+    days: &[Day],
+    workers: u32,
+    gate: &G,
+    out: &mut K,
+) -> Result<u32, Stop>
+    requires some { 1 ≤ workers }
+    requires few_workers { workers ≤ 16 }
+    requires few { length days.now ≤ 366 }
+    ensures writes { Writes (days_text (map (searched sky.now.district sky.now.root) days.now)) result
+        (K.faults out.old) (K.faults out.new) (K.held out.old) (K.held out.new) }
+    ensures count { IfOk result (λ count. count ≡ days_undecided (map (searched sky.now.district sky.now.root) days.now)) }
+    ensures few { IfOk result (λ count. count ≤ 7 * length days.now) }
+{
+    match search_days(rt, alloc, sky, days, workers, gate) {
+        Ok(entries) => write_days(alloc, sky, days, &entries, out),
+        Err(_) => Err(Stop::NoMemory),
+    }
+}
+
+/// Searches all days, some of them at a time, and writes their lines; answers how many of their entries are undecided.
+fn write_all_days<R: Threads + Wait + Sync, K: Sink, G: Gate + Sync>(
+    rt: &R,
+    alloc: Global,
+    sky: &Sky,
+    days: &[Day],
+    workers: u32,
+    gate: &G,
+    out: &mut K,
+) -> Result<u32, Stop>
+    requires some { 1 ≤ workers }
+    requires few_workers { workers ≤ 16 }
+    requires few { length days.now ≤ 366 }
+    ensures writes { Writes (days_text (map (searched sky.now.district sky.now.root) days.now)) result
+        (K.faults out.old) (K.faults out.new) (K.held out.old) (K.held out.new) }
+    ensures count { IfOk result (λ count. count ≡ days_undecided (map (searched sky.now.district sky.now.root) days.now)) }
+{
+    let mut undecided = 0;
+    let mut begun = 0;
+    while begun < days.len() {
+        let end = days.len().min(begun + DAYS_TOGETHER);
+        match write_together(rt, alloc, sky, &days[begun..end], workers, gate, out) {
+            Ok(count) => undecided += count,
+            Err(stop) => return Err(stop),
+        }
+        begun = end;
+    }
+    Ok(undecided)
+}
+
+/// Writes the head, and searches and writes the days behind it; answers how many of their entries are undecided.
+fn write_front<R: Threads + Wait + Sync, K: Sink, G: Gate + Sync>(
+    rt: &R,
+    alloc: Global,
+    ready: &Ready,
+    workers: u32,
+    gate: &G,
+    out: &mut K,
+) -> Result<u32, Stop>
+    requires some { 1 ≤ workers }
+    requires few_workers { workers ≤ 16 }
+    requires few { length ready.now.days.items ≤ 366 }
+    ensures writes { Writes (front_of ready.now) result
+        (K.faults out.old) (K.faults out.new) (K.held out.old) (K.held out.new) }
+    ensures count { IfOk result (λ count. count ≡ days_undecided (found_in ready.now)) }
+{
+    match write_all(out, &ready.head) {
+        Ok(()) => write_all_days(rt, alloc, &ready.sky, &ready.days, workers, gate, out),
+        Err(_) => Err(Stop::WriteFault),
+    }
+}
+
+/// Writes the table of an order, searched by 1 to 16 workers; answers how many of its entries are undecided.
+pub fn write_table<R: Threads + Wait + Sync, K: Sink, G: Gate + Sync>(
+    rt: &R,
+    alloc: Global,
+    order: Order,
+    workers: u32,
+    gate: &G,
+    out: &mut K,
+) -> Result<u32, Stop>
+    requires some { 1 ≤ workers }
+    requires few { workers ≤ 16 }
+    ensures writes { Writes (table_of (asked_of order)) result
+        (K.faults out.old) (K.faults out.new) (K.held out.old) (K.held out.new) }
+    ensures count { IfOk result (λ count. count ≡ undecided (asked_of order)) }
+    ensures right { IsRightTable (asked_of order) }
+{
+    let days = order.days;
+    let Ok(ready) = prepare(alloc, order) else {
+        return Err(Stop::NoMemory);
+    };
+    let undecided = match write_front(rt, alloc, &ready, workers, gate, out) {
+        Ok(undecided) => undecided,
+        Err(stop) => return Err(stop),
+    };
+    match write_end(alloc, days, undecided, out) {
+        Ok(()) => Ok(undecided),
+        Err(stop) => Err(stop),
+    }
+}
