@@ -6,9 +6,9 @@ use Rattle.clap.specs.Walk.{first_of, is_empty}
 use Rattle.sun_verdict.specs.Request.{IsInRange, request_in}
 use Rattle.sun_verdict.specs.declared.request.Request.{Request}
 use Rattle.command_words.specs.Numbers.{number_in}
-use Rattle.command_words.specs.Options.{demo_app, table_app}
+use Rattle.command_words.specs.Options.{table_app}
 use Rattle.command_words.specs.declared.command.Command.{Command}
-use Rattle.command_words.specs.declared.command.Command.TheVariants.{Unknown, Sun, Order, Plain, Table, Demo}
+use Rattle.command_words.specs.declared.command.Command.TheVariants.{Unknown, Sun, Order, Plain, Table}
 
 -- a command that takes no further word
 abbrev pub alone : List (List ℕ) → Command → Command
@@ -35,18 +35,9 @@ unfoldable pub workers_in : Option (List ℕ) → Option ℕ
 workers_in None = Some 4
 workers_in (Some text) = few (number_in text)
 
--- which order is made: 1, or what `--number` says
-unfoldable pub order_number_in : Option (List ℕ) → Option ℕ
-order_number_in None = Some 1
-order_number_in (Some text) = number_in text
-
 abbrev pub table_of : Option ℕ → Command
 table_of (Some workers) = Table workers
 table_of None = Unknown
-
-abbrev pub demo_of : Option ℕ → Option ℕ → Command
-demo_of (Some number) (Some workers) = Demo number workers
-demo_of number workers = Unknown
 
 -- the text of an option, where it stands among words that `clap` takes
 abbrev pub option_in : App → List (List ℕ) → List ℕ → Option (List ℕ)
@@ -59,11 +50,6 @@ taken app words command = if is_empty (fault_of app words) then command else Unk
 unfoldable pub table_command : List (List ℕ) → Command
 table_command words = taken table_app words (table_of (workers_in (option_in table_app words (codes "workers"))))
 
-unfoldable pub demo_command : List (List ℕ) → Command
-demo_command words =
-    taken demo_app words
-    (demo_of (order_number_in (option_in demo_app words (codes "number"))) (workers_in (option_in demo_app words (codes "workers"))))
-
 -- ---- all words
 
 unfoldable pub command_of : List (List ℕ) → Command
@@ -73,18 +59,15 @@ command_of (name ∷ words) =
     else if bytes_eq name (codes "order") then alone words Order
     else if bytes_eq name (codes "plain") then alone words Plain
     else if bytes_eq name (codes "table") then table_command words
-    else if bytes_eq name (codes "demo") then demo_command words
     else Unknown
 
 -- what is known of a command that words ask for
 abbrev pub IsCommand : Command → Type 0
 IsCommand (Sun r) = IsInRange r
 IsCommand (Table workers) = (1 ≤ workers) × (workers ≤ 16)
-IsCommand (Demo number workers) = (1 ≤ workers) × (workers ≤ 16)
 IsCommand command = Unit {0}
 
--- a command of one thread; the others are no word's there
+-- the command where one thread does the work: those that need more are none there
 abbrev pub without_workers : Command → Command
 without_workers (Table workers) = Unknown
-without_workers (Demo number workers) = Unknown
 without_workers command = command

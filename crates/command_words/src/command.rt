@@ -17,11 +17,4 @@ pub enum Command {
         /// How many workers search, from 1 to 16.
         workers: u32,
     },
-    /// `demo`.
-    Demo {
-        /// The number of the order that is made.
-        number: u32,
-        /// How many workers search, from 1 to 16.
-        workers: u32,
-    },
 }

@@ -8,4 +8,4 @@ mod options;
 mod words;
 
 pub use command::Command;
-pub use words::{command_in, without_workers};
+pub use words::command_in;

@@ -2,11 +2,11 @@
 ghost use Rattle.std.specs.Prelude.{◌≡◌, ◌≤◌, IfOk, IfSome, map, option_map, string_bytes};
 ghost use Rattle.clap.specs.Matches.{found_of};
 ghost use Rattle.clap.specs.Walk.{first_of, rows_of};
-ghost use Rattle.command_words.specs.Words.{IsCommand, alone, command_of, demo_command, demo_of, order_number_in, sun_command, table_command, without_workers, workers_in};
+ghost use Rattle.command_words.specs.Words.{IsCommand, alone, command_of, sun_command, table_command, workers_in};
 
 use crate::command::Command;
 use crate::number::number;
-use crate::options::{demo_options, read_options, table_options};
+use crate::options::{read_options, table_options};
 use clap::ArgMatches;
 use no_memory::NoMemory;
 use std::alloc::Global;
@@ -60,17 +60,6 @@ fn workers(alloc: Global, text: Option<&str>) -> Result<Option<u32>, NoMemory>
     }
 }
 
-/// The number of the order that is made: 1 where the option isn't given.
-#[tactic(auto, unfolding(crate::specs::Words::order_number_in))]
-fn order_number(alloc: Global, text: Option<&str>) -> Result<Option<u32>, NoMemory>
-    ensures { IfOk result (λ n. n ≡ order_number_in (option_map (λ s. s.now) text.entry)) }
-{
-    match text {
-        Some(text) => number(alloc, text),
-        None => Ok(Some(1)),
-    }
-}
-
 /// `table`, with its option.
 #[tactic(auto, unfolding(crate::specs::Words::table_command))]
 fn table(alloc: Global, rest: &[String]) -> Result<Command, NoMemory>
@@ -84,33 +73,6 @@ fn table(alloc: Global, rest: &[String]) -> Result<Command, NoMemory>
         Some(workers) => Ok(Command::Table { workers }),
         None => Ok(Command::Unknown),
     }
-}
-
-/// `demo`, where both its options are in their spelling and their range.
-fn demo_of(number: Option<u32>, workers: Option<u32>) -> Command
-    requires some { IfSome workers (λ n. 1 ≤ n) }
-    requires few { IfSome workers (λ n. n ≤ 16) }
-    ensures value { result ≡ demo_of number workers }
-    ensures range { IsCommand result }
-{
-    match (number, workers) {
-        (Some(number), Some(workers)) => Command::Demo { number, workers },
-        _ => Command::Unknown,
-    }
-}
-
-/// `demo`, with its options.
-#[tactic(auto, unfolding(crate::specs::Words::demo_command))]
-fn demo(alloc: Global, rest: &[String]) -> Result<Command, NoMemory>
-    ensures value { IfOk result (λ c. c ≡ demo_command (map string_bytes rest.now)) }
-    ensures range { IfOk result IsCommand }
-{
-    let Some(matches) = read_options(demo_options(alloc)?, rest)? else {
-        return Ok(Command::Unknown);
-    };
-    let number = order_number(alloc, text(&matches, "number"))?;
-    let workers = workers(alloc, text(&matches, "workers"))?;
-    Ok(demo_of(number, workers))
 }
 
 /// The command that the words ask for.
@@ -127,19 +89,6 @@ pub fn command_in(alloc: Global, words: &[String]) -> Result<Command, NoMemory>
         "order" => Ok(alone(rest, Command::Order)),
         "plain" => Ok(alone(rest, Command::Plain)),
         "table" => table(alloc, rest),
-        "demo" => demo(alloc, rest),
         _ => Ok(Command::Unknown),
-    }
-}
-
-/// The command, if it needs no second thread.
-pub fn without_workers(command: Command) -> Command
-    requires { IsCommand command }
-    ensures value { result ≡ without_workers command }
-    ensures range { IsCommand result }
-{
-    match command {
-        Command::Table { .. } | Command::Demo { .. } => Command::Unknown,
-        other => other,
     }
 }

@@ -1,3 +1,4 @@
 pub mod Digits
 pub mod VerdictLemmas
 pub mod TruthLemmas
+pub mod RangeLemmas

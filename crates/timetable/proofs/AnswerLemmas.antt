@@ -1,31 +1,32 @@
 -- How the answer to each command is made.
-use Rattle.std.proofs.Common.{◌≡◌, ℕ, List, Bool, true, false, cond, Ok, Err, Result, sym, subst}
+use Rattle.std.proofs.Common.{◌≡◌, ℕ, List, [], Bool, true, false, cond, Ok, Err, Result, refl, sym, subst, arith}
 use Rattle.std.specs.Prelude.{◌≢◌, ◌==◌, IfOk}
 use Rattle.command_input.proofs.AnswerLemmas.{answers_order, answers_refused, answers_unread}
-use Rattle.command_input.specs.Answers.{Answers}
+use Rattle.command_input.proofs.InputLemmas.{every_text_is_an_input, told_by}
+use Rattle.command_input.specs.Answers.{Answers, Leaves, answer_by}
+use Rattle.command_input.specs.Input.{Input, Wanted, an_order, nothing}
 use Rattle.command_input.specs.Taken.{IsReadAs}
-use Rattle.order_reader.specs.Asked.{asked_of}
-use Rattle.order_reader.specs.Line.{order_line}
+use Rattle.order_reader.specs.Asked.{Asked, asked_of}
 use Rattle.order_reader.specs.declared.order.Order.{Order as OrderRead}
-use Rattle.outcome.proofs.Endings.{text_ending, usage_ending}
-use Rattle.outcome.specs.Endings.{ending_of, line_of_ending, status_of_ending}
+use Rattle.outcome.proofs.Endings.{given_up, text_ending, usage_ending}
+use Rattle.outcome.specs.Answer.{Answer, finished}
+use Rattle.outcome.specs.Endings.{EndsBy, ending_of, line_of_ending, status_of_ending}
 use Rattle.outcome.specs.Ends.{Reports}
 use Rattle.outcome.specs.Streams.{Stream, Streams}
 use Rattle.outcome.specs.Writing.{Writes}
 use Rattle.outcome.specs.declared.ending.Ending.{Ending}
 use Rattle.outcome.specs.declared.ending.Ending.TheVariants.{Plain}
 use Rattle.outcome.specs.declared.status.Status.{Status}
-use Rattle.outcome.specs.declared.status.Status.TheVariants.{Done, Usage, ReadFault}
+use Rattle.outcome.specs.declared.status.Status.TheVariants.{Done, NoMemory, Usage, ReadFault}
 use Rattle.outcome.specs.declared.status.Status.TheVariants.{Open as StatusOpen}
 use Rattle.outcome.specs.declared.stop.Stop.{Stop}
 use Rattle.outcome.specs.declared.stop.Stop.TheVariants.{NoMemory as StopNoMemory, WriteFault as StopWriteFault}
 use Rattle.sun_verdict.specs.Line.{undecided_in, verdict_line}
 use Rattle.sun_verdict.specs.declared.request.Request.{Request}
-use Rattle.timetable.specs.Answer.{answer_to, order_answer, table_answer, wanted_by}
+use Rattle.timetable.specs.Answer.{answer_to, wanted_by}
 use Rattle.timetable.specs.Ended.{Ended}
-use Rattle.order_table.specs.Trees.{table_of, undecided}
-use Rattle.timetable.specs.declared.words.Command.{Command}
-use Rattle.timetable.specs.declared.words.Command.TheVariants.{Unknown, Sun, Order, Plain}
+use Rattle.command_words.specs.declared.command.Command.{Command}
+use Rattle.command_words.specs.declared.command.Command.TheVariants.{Unknown, Sun}
 
 -- the answer to a command, where it is this one
 abbrev pub AnswersTo : Command → Ending → Stream → Stream → Stream → Stream → Type 0
@@ -53,29 +54,43 @@ sun_answers command r w ending source out out' is writes count same =
     rw (is, same) (answers_unread (answer_to (Sun r)) (ending_of w) source out out'
     (text_ending (verdict_line r) (undecided_in r) w source source out out' writes count) (no_read_fault w))
 
-pub order_answers : (command : Command) (o : OrderRead) (w : Result ℕ Stop) (ending : Ending) (source source' out out' : Stream) →
-    command ≡ Order → IsReadAs source source' (Ok o) →
-    Writes {X = ℕ} (order_line (asked_of o)) w out.faults out'.faults out.bytes out'.bytes →
-    IfOk w (λ count. count ≡ 0) → ending ≡ ending_of w → AnswersTo command ending source source' out out'
-order_answers command o w ending source source' out out' is was_read writes count same =
-    rw (is, same) (answers_order order_answer o (ending_of w) source source' out out' was_read
-    (text_ending (order_line (asked_of o)) 0 w source source' out out' writes count))
+-- memory for reading the words was not found
+pub dry_answers : (command : Command) (source out : Stream) → AnswersTo command (Plain NoMemory) source source out out
+dry_answers command source out =
+    let (bytes, told) = told_by source.bytes in
+    let (input, spelled) = every_text_is_an_input (wanted_by command) bytes in
+    record {
+      input = input;
+      spelled = record { bytes = bytes; told = told; spelled = spelled };
+      ends = given_up (answer_to command input) source source out;
+      leaves = left (wanted_by command) input;
+    }
+  where
+    left : (wanted : Wanted) (input : Input) → Leaves wanted input NoMemory source source
+    left nothing input = (refl, λ same. cc)
+    left an_order input = record {
+      within = ([], omega arith, λ x told. (x, told, refl));
+      whole = λ no_read memory short. absurd (memory refl);
+      later = omega arith;
+    }
 
-pub plain_answers : (command : Command) (o : OrderRead) (w : Result ℕ Stop) (ending : Ending) (source source' out out' : Stream) →
-    command ≡ Plain → IsReadAs source source' (Ok o) →
-    Writes {X = ℕ} (table_of (asked_of o)) w out.faults out'.faults out.bytes out'.bytes →
-    IfOk w (λ count. count ≡ undecided (asked_of o)) → ending ≡ ending_of w → AnswersTo command ending source source' out out'
-plain_answers command o w ending source source' out out' is was_read writes count same =
-    rw (is, same) (answers_order table_answer o (ending_of w) source source' out out' was_read
-    (text_ending (table_of (asked_of o)) (undecided (asked_of o)) w source source' out out' writes count))
+-- what is written for an order that was read, where the command answers it so
+pub read_answers : (which : Command) (answer : Asked → Answer) → wanted_by which ≡ an_order → answer_to which ≡ answer_by answer →
+    (command : Command) (o : OrderRead) (text : List ℕ) (undecided : ℕ) (w : Result ℕ Stop) (ending : Ending) (source source' out out' : Stream) →
+    command ≡ which → IsReadAs source source' (Ok o) → answer (asked_of o) ≡ finished undecided text →
+    Writes {X = ℕ} text w out.faults out'.faults out.bytes out'.bytes → IfOk w (λ count. count ≡ undecided) →
+    ending ≡ ending_of w → AnswersTo command ending source source' out out'
+read_answers which answer wants answers command o text undecided w ending source source' out out' is was_read made writes count same =
+    rw (is, same, wants, answers) (answers_order answer o (ending_of w) source source' out out' was_read
+    (subst (λ (a : Answer). EndsBy a (ending_of w) source source' out out') (sym made)
+    (text_ending text undecided w source source' out out' writes count)))
 
-pub order_refuses : (command : Command) (ending : Ending) (source source' out : Stream) → command ≡ Order →
+-- what is no order
+pub read_refuses : (which : Command) (answer : Asked → Answer) → wanted_by which ≡ an_order → answer_to which ≡ answer_by answer →
+    (command : Command) (ending : Ending) (source source' out : Stream) → command ≡ which →
     IsReadAs source source' (Err ending) → AnswersTo command ending source source' out out
-order_refuses command ending source source' out is was_read = rw is (answers_refused order_answer ending source source' out was_read)
-
-pub plain_refuses : (command : Command) (ending : Ending) (source source' out : Stream) → command ≡ Plain →
-    IsReadAs source source' (Err ending) → AnswersTo command ending source source' out out
-plain_refuses command ending source source' out is was_read = rw is (answers_refused table_answer ending source source' out was_read)
+read_refuses which answer wants answers command ending source source' out is was_read =
+    rw (is, wants, answers) (answers_refused answer ending source source' out was_read)
 
 -- what was answered, with the line that was reported
 pub ended_by : (command : Command) (ending : Ending) (status : Status) (line : List ℕ) (before after : Streams) →

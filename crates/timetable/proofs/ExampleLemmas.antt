@@ -11,15 +11,15 @@ use Rattle.sun_verdict.specs.Request.{angle_in, coordinate_in, minute_in, questi
 use Rattle.sun_verdict.specs.declared.request.Question.TheVariants.{Altitude}
 use Rattle.sun_verdict.specs.declared.request.Request.{Request}
 use Rattle.timetable.specs.Memory.{KeepsTheLaws}
-use Rattle.timetable.specs.Words.{command_of, sun_command}
-use Rattle.timetable.specs.declared.words.Command.{Command}
-use Rattle.timetable.specs.declared.words.Command.TheVariants.{Unknown, Sun, Order}
+use Rattle.command_words.specs.Words.{command_of, sun_command, without_workers}
+use Rattle.command_words.specs.declared.command.Command.{Command}
+use Rattle.command_words.specs.declared.command.Command.TheVariants.{Unknown, Sun, Order}
 
-pub no_words_are_wrong : (words : List (List ℕ)) → words ≡ [] → command_of words ≡ Unknown
+pub no_words_are_wrong : (words : List (List ℕ)) → words ≡ [] → without_workers (command_of words) ≡ Unknown
 unfolding command_of
 no_words_are_wrong words is = rw is refl
 
-pub order_alone : (word : List ℕ) → word ≡ codes "order" → command_of (word ∷ []) ≡ Order
+pub order_alone : (word : List ℕ) → word ≡ codes "order" → without_workers (command_of (word ∷ [])) ≡ Order
 unfolding command_of
 order_alone word is = rw is refl
 
@@ -27,7 +27,7 @@ pub first_request : Request
 first_request = record { minute = pos 0; lon = pos 0; lat = pos 0; question = Altitude (pos 0) }
 
 pub sun_with_four : (name minute lon lat what : List ℕ) → name ≡ codes "sun" → minute ≡ codes "0" → lon ≡ codes "0" → lat ≡ codes "0" →
-    what ≡ codes "0" → command_of (name ∷ minute ∷ lon ∷ lat ∷ what ∷ []) ≡ Sun first_request
+    what ≡ codes "0" → without_workers (command_of (name ∷ minute ∷ lon ∷ lat ∷ what ∷ [])) ≡ Sun first_request
 unfolding command_of sun_command request_in minute_in coordinate_in question_in angle_in millionths_in digits_in first_request
 sun_with_four name minute lon lat what is_name is_minute is_lon is_lat is_what = rw (is_name, is_minute, is_lon, is_lat, is_what) refl
 

@@ -18,8 +18,8 @@ use Rattle.source_sink.specs.Reading.{IsReadToEnd}
 use Rattle.timetable.specs.Answer.{answer_to, wanted_by}
 use Rattle.timetable.specs.Ended.{Ended}
 use Rattle.timetable.specs.Laws.{EndedBy, FinishedRunsWroteTheAnswer, IsAnOrder, IsFinished, IsNoOrder, IsRefused, IsUsage, OrdersAreRefusedForCause, ReadsAnOrder, RightWordsAreAnswered, TablesAreRight, ToldBytesDecide, UsageIsForWrongWords, WrongOrdersAreRefused, WrongWordsAreRefused, undecided_by}
-use Rattle.timetable.specs.declared.words.Command.{Command}
-use Rattle.timetable.specs.declared.words.Command.TheVariants.{Unknown, Sun, Order, Plain}
+use Rattle.command_words.specs.declared.command.Command.{Command}
+use Rattle.command_words.specs.declared.command.Command.TheVariants.{Unknown, Sun, Order, Plain, Table}
 
 -- ---- the three answers there are, by the command and its input
 
@@ -69,6 +69,10 @@ kinds Plain bytes unread spelled = absurd spelled
 kinds Plain bytes (order too_long) spelled = none_of Plain (order too_long) _ (λ same. cc) refl tt refl
 kinds Plain bytes (order (read (Err fault))) spelled = none_of Plain (order (read (Err fault))) _ (λ same. cc) refl tt refl
 kinds Plain bytes (order (read (Ok o))) spelled = text_of Plain (order (read (Ok o))) _ (λ same. cc) (λ same. tt) (λ long. long) refl
+kinds (Table workers) bytes unread spelled = absurd spelled
+kinds (Table workers) bytes (order too_long) spelled = none_of (Table workers) (order too_long) _ (λ same. cc) refl tt refl
+kinds (Table workers) bytes (order (read (Err fault))) spelled = none_of (Table workers) (order (read (Err fault))) _ (λ same. cc) refl tt refl
+kinds (Table workers) bytes (order (read (Ok o))) spelled = text_of (Table workers) (order (read (Ok o))) _ (λ same. cc) (λ same. tt) (λ long. long) refl
 
 kind_of : {command : Command} {status : Status} {before after : Streams} → (run : Ended command status before after) → Kinds command run.input
 kind_of {command = command} run = kinds command run.spelled.bytes run.input run.spelled.spelled

@@ -11,8 +11,8 @@ use Rattle.timetable.specs.Answer.{wanted_by}
 use Rattle.timetable.specs.Ended.{Ended}
 use Rattle.timetable.specs.Laws.{IsAnOrder, IsFinished, IsNoOrder, IsRefused}
 use Rattle.timetable.specs.Memory.{KeepsTheLaws}
-use Rattle.timetable.specs.declared.words.Command.{Command}
-use Rattle.timetable.specs.declared.words.Command.TheVariants.{Unknown}
+use Rattle.command_words.specs.declared.command.Command.{Command}
+use Rattle.command_words.specs.declared.command.Command.TheVariants.{Unknown}
 
 -- the input of a run whose source told its bytes is that which they spell
 input_told : {command : Command} {status : Status} {before after : Streams} (run : Ended command status before after) (bytes : List ℕ) →

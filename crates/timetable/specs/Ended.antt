@@ -6,7 +6,7 @@ use Rattle.outcome.specs.Ends.{EndsAs, Reports}
 use Rattle.outcome.specs.Streams.{Streams}
 use Rattle.outcome.specs.declared.status.Status.{Status}
 use Rattle.timetable.specs.Answer.{answer_to, wanted_by}
-use Rattle.timetable.specs.declared.words.Command.{Command}
+use Rattle.command_words.specs.declared.command.Command.{Command}
 
 pub record Ended (command : Command) (status : Status) (before after : Streams) : Type 0 where
   -- the input, as the source's bytes spell it where it told them

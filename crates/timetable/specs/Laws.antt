@@ -15,8 +15,8 @@ use Rattle.timetable.specs.Answer.{answer_to, wanted_by}
 use Rattle.timetable.specs.Ended.{Ended}
 use Rattle.order_table.specs.RightTable.{IsRightTable}
 use Rattle.order_table.specs.Trees.{undecided}
-use Rattle.timetable.specs.declared.words.Command.{Command}
-use Rattle.timetable.specs.declared.words.Command.TheVariants.{Unknown, Sun, Plain}
+use Rattle.command_words.specs.declared.command.Command.{Command}
+use Rattle.command_words.specs.declared.command.Command.TheVariants.{Unknown, Sun, Plain, Table}
 
 -- ---- words and inputs
 
@@ -41,6 +41,7 @@ IsNoOrder input = ⊥
 abbrev pub undecided_by : Command → Input → ℕ
 undecided_by (Sun r) input = undecided_in r
 undecided_by Plain (order (read (Ok o))) = undecided o
+undecided_by (Table workers) (order (read (Ok o))) = undecided o
 undecided_by command input = 0
 
 -- ---- laws

@@ -1,5 +1,5 @@
-pub mod Words
 pub mod Answer
 pub mod Ended
+pub mod Headline
 pub mod Laws
 pub mod Memory

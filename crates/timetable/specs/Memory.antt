@@ -8,8 +8,8 @@ use Rattle.outcome.specs.declared.status.Status.{Status}
 use Rattle.outcome.specs.declared.status.Status.TheVariants.{Done, Open, Usage, OrderRefused, NoMemory}
 use Rattle.timetable.specs.Answer.{wanted_by}
 use Rattle.timetable.specs.Laws.{EndedBy, IsAnOrder, IsFinished, IsNoOrder, IsRefused, IsUsage, ReadsAnOrder}
-use Rattle.timetable.specs.declared.words.Command.{Command}
-use Rattle.timetable.specs.declared.words.Command.TheVariants.{Unknown}
+use Rattle.command_words.specs.declared.command.Command.{Command}
+use Rattle.command_words.specs.declared.command.Command.TheVariants.{Unknown}
 
 -- a law each
 pub record KeepsTheLaws (command : Command) (bytes : List ℕ) (status : Status) (before after : Streams) : Type 0 where

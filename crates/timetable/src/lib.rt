@@ -6,10 +6,10 @@ pub mod examples;
 pub mod laws;
 mod memory;
 mod orders;
-mod run;
-mod words;
+mod one_thread;
+mod top_calls;
 
+pub use command_words::Command;
 pub use memory::run_in_memory;
 pub use outcome::Status;
-pub use run::run_plain;
-pub use words::Command;
+pub use top_calls::{run, run_plain};

@@ -3,9 +3,9 @@ ghost use Rattle.std.specs.Prelude.{Some, map, string_bytes};
 ghost use Rattle.outcome.specs.Streams.{stream, streams};
 ghost use Rattle.source_sink.specs.Sure.{told_of};
 ghost use Rattle.timetable.specs.Memory.{KeepsTheLaws};
-ghost use Rattle.timetable.specs.Words.{command_of};
+ghost use Rattle.command_words.specs.Words.{command_of, without_workers};
 
-use crate::run::run_plain;
+use crate::top_calls::run_plain;
 use outcome::Status;
 use source_sink::{SureSink, SureSource};
 use std::alloc::Global;
@@ -18,7 +18,7 @@ pub fn run_in_memory(
     out: &mut SureSink,
     err: &mut SureSink,
 ) -> Status
-    ensures { KeepsTheLaws (command_of (map string_bytes words.now)) source.old result
+    ensures { KeepsTheLaws (without_workers (command_of (map string_bytes words.now))) source.old result
         (streams (stream (Some source.old) 0) (stream (told_of out.old) 0) (stream (told_of err.old) 0))
         (streams (stream (Some source.new) 0) (stream (told_of out.new) 0) (stream (told_of err.new) 0)) }
 {

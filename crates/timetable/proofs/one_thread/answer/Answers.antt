@@ -1,0 +1,31 @@
+use Rattle.std.proofs.Common.{ap, inl, inr, refl}
+use Rattle.command_words.specs.Words.{without_workers}
+use Rattle.command_words.specs.declared.command.Command.TheVariants.{Order, Plain}
+use Rattle.timetable.proofs.AnswerLemmas.{read_answers, read_refuses, sun_answers, unknown_answers}
+use Rattle.timetable.specs.Answer.{order_answer, table_answer}
+use Rattle.timetable.proofs.one_thread.answer.Goals as goal
+
+pub returns-in-Unknown : goal.returns-in-Unknown
+returns-in-Unknown g c =
+    unknown_answers _ _ _ (elim c.in-Unknown.is [ inl unknown ↦ ap without_workers unknown | inr table ↦ ap without_workers table.1 ])
+
+pub returns-in-Sun : goal.returns-in-Sun
+returns-in-Sun g c =
+    sun_answers _ c.in-Sun.request c.write_verdict.result _ _ _ _ (ap without_workers c.in-Sun.is) c.write_verdict.ensures.writes c.write_verdict.ensures.count
+    c.ending_of.ensures
+
+pub returns-in-Ok : goal.returns-in-Ok
+returns-in-Ok g c =
+    read_answers Order order_answer refl refl _ c.in-Ok.order _ _ c.write_line.result _ _ _ _ _ (ap without_workers c.in-Order.is) c.in-Ok.ensures refl
+    c.write_line.ensures.writes c.write_line.ensures.count c.ending_of-in-Ok.ensures
+
+pub returns-in-Err : goal.returns-in-Err
+returns-in-Err g c = read_refuses Order order_answer refl refl _ _ _ _ _ (ap without_workers c.in-Order.is) c.in-Err.ensures
+
+pub returns-in-Ok-order_from : goal.returns-in-Ok-order_from
+returns-in-Ok-order_from g c =
+    read_answers Plain table_answer refl refl _ c.in-Ok-order_from.order _ _ c.write_table.result _ _ _ _ _ (ap without_workers c.in-Plain.is) c.in-Ok-order_from.ensures refl
+    c.write_table.ensures.writes c.write_table.ensures.count c.ending_of-in-Ok-order_from.ensures
+
+pub returns-in-Err-order_from : goal.returns-in-Err-order_from
+returns-in-Err-order_from g c = read_refuses Plain table_answer refl refl _ _ _ _ _ (ap without_workers c.in-Plain.is) c.in-Err-order_from.ensures

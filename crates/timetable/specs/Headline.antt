@@ -1,0 +1,37 @@
+-- What a printed table is: the main sentence of the program, in its own words.
+use Rattle.std.specs.Prelude.{◌≡◌, ◌≢◌, ◌⊎◌, Ok}
+use Rattle.command_input.specs.Input.{IsSpelledBy, an_order, order, read}
+use Rattle.command_words.specs.declared.command.Command.{Command}
+use Rattle.command_words.specs.declared.command.Command.TheVariants.{Plain, Table}
+use Rattle.order_reader.specs.Asked.{Asked}
+use Rattle.order_table.specs.RightTable.{IsRightTable}
+use Rattle.order_table.specs.Trees.{table_of, undecided}
+use Rattle.outcome.specs.Streams.{Streams}
+use Rattle.outcome.specs.declared.status.Status.{Status}
+use Rattle.outcome.specs.declared.status.Status.TheVariants.{Done, Open}
+use Rattle.source_sink.specs.Outside.{Adds}
+use Rattle.source_sink.specs.Reading.{IsReadToEnd}
+
+-- the commands that print a table
+abbrev pub PrintsATable : Command → Type 0
+PrintsATable Plain = Unit {0}
+PrintsATable (Table workers) = Unit {0}
+PrintsATable command = ⊥
+
+-- The source was read to its end and spelled an order. The output has that order's table alone in addition, and each entry of
+-- it is right: a minute that begins is the least from which the condition holds at every rational place of the district, at every
+-- minute to the end of its frame, one that ends the greatest; an open entry names a smallest cell with a place within the tolerance.
+pub record PrintedARightTable (status : Status) (before after : Streams) : Type 0 where
+  pub asked : Asked
+  pub spelled : IsSpelledBy an_order before.source.bytes (order (read (Ok asked)))
+  pub read_through : IsReadToEnd before.source.bytes after.source.bytes
+  pub printed : Adds before.out.bytes after.out.bytes (table_of asked)
+  pub right : IsRightTable asked
+  -- nothing in it is undecided, exactly where the run is Done
+  pub decided : status ≡ Done → undecided asked ≡ 0
+  pub undecided : status ≡ Open → undecided asked ≢ 0
+
+-- whatever a run was asked, however many workers searched in whatever order
+abbrev pub Headline : Command → Status → Streams → Streams → Type 0
+Headline command status before after =
+    PrintsATable command → (status ≡ Done) ⊎ (status ≡ Open) → PrintedARightTable status before after

@@ -1,0 +1,58 @@
+// The commands that one thread answers.
+ghost use Rattle.std.specs.Prelude.{map, string_bytes};
+ghost use Rattle.command_input.specs.Answers.{Answers};
+ghost use Rattle.command_words.specs.Words.{IsCommand, command_of, without_workers};
+ghost use Rattle.outcome.specs.Streams.{stream};
+ghost use Rattle.timetable.specs.Answer.{answer_to, wanted_by};
+
+use crate::orders::write_line;
+use command_input::order_from;
+use command_words::{Command, command_in};
+use order_table::write_table;
+use outcome::{Ending, Status, ending_of};
+use source_sink::{Sink, Source};
+use std::alloc::Global;
+use sun_verdict::write_verdict;
+
+/// Answers a command on one thread; one that needs more is none here.
+pub(crate) fn answer<S: Source, K: Sink>(
+    alloc: Global,
+    command: Command,
+    source: &mut S,
+    out: &mut K,
+) -> Ending
+    requires { IsCommand command }
+    ensures { Answers (wanted_by (without_workers command)) (answer_to (without_workers command)) result
+        (stream (S.left source.old) (S.faults source.old)) (stream (S.left source.new) (S.faults source.new))
+        (stream (K.held out.old) (K.faults out.old)) (stream (K.held out.new) (K.faults out.new)) }
+{
+    match command {
+        Command::Unknown | Command::Table { .. } => Ending::Plain(Status::Usage),
+        Command::Sun(request) => ending_of(write_verdict(alloc, &request, out)),
+        Command::Order => match order_from(alloc, source) {
+            Ok(order) => ending_of(write_line(alloc, &order, out)),
+            Err(ending) => ending,
+        },
+        Command::Plain => match order_from(alloc, source) {
+            Ok(order) => ending_of(write_table(alloc, order, out)),
+            Err(ending) => ending,
+        },
+    }
+}
+
+/// Answers words on one thread.
+pub(crate) fn answer_words<S: Source, K: Sink>(
+    alloc: Global,
+    words: &[String],
+    source: &mut S,
+    out: &mut K,
+) -> Ending
+    ensures { Answers (wanted_by (without_workers (command_of (map string_bytes words.now)))) (answer_to (without_workers (command_of (map string_bytes words.now)))) result
+        (stream (S.left source.old) (S.faults source.old)) (stream (S.left source.new) (S.faults source.new))
+        (stream (K.held out.old) (K.faults out.old)) (stream (K.held out.new) (K.faults out.new)) }
+{
+    match command_in(alloc, words) {
+        Ok(command) => answer(alloc, command, source, out),
+        Err(_) => Ending::Plain(Status::NoMemory),
+    }
+}
