@@ -5,8 +5,8 @@
 pub mod examples;
 pub mod laws;
 mod memory;
-mod orders;
 mod one_thread;
+mod orders;
 mod top_calls;
 
 pub use command_words::Command;

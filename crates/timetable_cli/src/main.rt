@@ -1,5 +1,5 @@
 // The program: the words of the command line and the standard streams, handed to the top call.
-// Contract: none of its own; it ends with the status that `run_plain` answers.
+// Contract: none of its own; it ends with the status that `run` answers.
 #![tactic(auto)]
 
 use source_sink::{StdSink, StdSource, write_all};
@@ -7,7 +7,8 @@ use std::env;
 use std::io::ErrorKind;
 use std::process::ExitCode;
 use std::rt::Env;
-use timetable::{Status, run_plain};
+use steal_pool::OpenGate;
+use timetable::{Status, run};
 
 /// The words behind the program's name. Where one is no text, none, which the program doesn't take either.
 fn words(rt: &(impl Env + AllocGlobal)) -> Result<Vec<String>, Status> {
@@ -26,20 +27,24 @@ fn words(rt: &(impl Env + AllocGlobal)) -> Result<Vec<String>, Status> {
     }
 }
 
-fn run(rt: &HostRuntime) -> Status {
+fn main(rt: HostRuntime) -> ExitCode {
     let mut source = StdSource::new(rt.stdin());
     let mut out = StdSink::new(rt.stdout());
     let mut err = StdSink::new(rt.stderr());
-    let words = match words(rt) {
-        Ok(words) => words,
+    let status = match words(&rt) {
+        Ok(words) => run(
+            &rt,
+            rt.alloc(),
+            &words,
+            &mut source,
+            &mut out,
+            &mut err,
+            &OpenGate,
+        ),
         Err(status) => {
             let _ = write_all(&mut err, b"no memory\n");
-            return status;
+            status
         }
     };
-    run_plain(rt.alloc(), &words, &mut source, &mut out, &mut err)
-}
-
-fn main(rt: HostRuntime) -> ExitCode {
-    ExitCode::from(run(&rt).number())
+    ExitCode::from(status.number())
 }

@@ -10,3 +10,5 @@ mod orders;
 mod sun;
 #[cfg(test)]
 mod tables;
+#[cfg(test)]
+mod workers;
