@@ -1,7 +1,7 @@
 -- Searches of one problem after another make a harvest.
-use Rattle.std.proofs.Common.{◌≡◌, ℕ, suc, ◌+◌, ◌<◌, List, [], ◌∷◌, ◌++◌, filter, Contains, Option, None, sum_by, sym, refl, ap, ◌∙◌, append_assoc, subst, arith, add-one, length-append}
+use Rattle.std.proofs.Common.{◌≡◌, ℕ, suc, ◌+◌, ◌<◌, List, [], ◌∷◌, ◌++◌, Contains, Option, None, sym, refl, ap, ◌∙◌, append_assoc, subst, arith, add-one, length-append}
 use Rattle.std.proofs.lemmas.List.{append-nil, get_or_push, get_or_append_left}
-use Rattle.std.proofs.lemmas.List.Elements.{All-nil, All-append, All-weaker, Contains-append_left, Contains-append_right, filter-append}
+use Rattle.std.proofs.lemmas.List.Elements.{All-nil, All-append, All-weaker, Contains-append_left, Contains-append_right}
 use mathlib.Core.Logic.{dite}
 use native.Mathlib.Decide.{ℕ_discrete}
 use Rattle.cell_split.specs.declared.verdict.Leaf.{Leaf}

@@ -1,4 +1,4 @@
-use Rattle.std.proofs.Common.{◌≤◌, sym, ap, ◌∙◌, subst}
+use Rattle.std.proofs.Common.{sym, ap, ◌∙◌, subst}
 use Rattle.cell_split.specs.Entries.{entry_by}
 use Rattle.cell_split.specs.Verdicts.{is_refuted}
 use Rattle.steal_pool.specs.Harvests.{word_of}
