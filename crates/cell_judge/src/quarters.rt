@@ -1,7 +1,7 @@
 // The judgement of the four quarters of a cell, which share the sun, two latitudes and two ranges of sidereal times.
-ghost use Rattle.std.specs.Prelude.{◌≡◌, ◌∷◌, [], map, ◌+ℤ◌};
+ghost use Rattle.std.specs.Prelude.{◌≡◌, ◌∷◌, [], map, ◌+ℤ◌, IfSome};
 ghost use Rattle.fixed_interval.specs.Interval.{ends};
-ghost use Rattle.solar_terms.specs.Sun.{grid_sun, terms_of};
+ghost use Rattle.solar_terms.specs.Sun.{grid_sun, minutes_of, terms_of};
 ghost use Rattle.altitude_test.specs.Values.{grid_latitude, grid_sidereal_time};
 ghost use Rattle.method_table.specs.Kind.{IsKind};
 ghost use Rattle.method_table.specs.Row.{row_of};
@@ -10,7 +10,7 @@ ghost use Rattle.cell_split.specs.Split.{children_of, half, quarter, split};
 ghost use Rattle.cell_judge.specs.Limits.{IsInLimits};
 ghost use Rattle.cell_judge.specs.Shared.{IsDirectionOf, value_by};
 ghost use Rattle.cell_judge.specs.Sines.{IsSineOf};
-ghost use Rattle.cell_judge.specs.Skies.{minutes_at, places_at, verdict_at, verdict_on};
+ghost use Rattle.cell_judge.specs.Skies.{grid_value, minutes_at, places_at, verdict_at, verdict_on};
 
 use crate::sky::Sky;
 use crate::values::{minutes_at, places_at};
@@ -23,8 +23,8 @@ use cell_split::{Cell, Judged, Verdict, children};
 use fixed_interval::Interval;
 use method_table::{Kind, Problem};
 use region::Point;
-use solar_terms::Sun;
 use solar_terms::observatory::sun;
+use solar_terms::{Minutes, Sun};
 
 // The four quarters of a cell.
 #[derive(Clone, Copy)]
@@ -53,6 +53,44 @@ fn quarters_of(cell: &Cell) -> Quarters
     }
 }
 
+// What the quarters share: the sine of the angles, and the minutes of their ranks with the sun.
+#[derive(Clone, Copy)]
+struct Scene {
+    sine: Interval,
+    minutes: Minutes,
+    sun: Sun,
+}
+
+// The latitudes of a cell, made once for the quarters beside each other.
+fn latitude_of(made: &mut Option<Direction>, cell: &Cell) -> Direction
+    requires cell { IsCell cell.now }
+    requires made { IfSome made.old (IsDirectionOf (grid_latitude (places_at cell.now))) }
+    ensures value { IsDirectionOf (grid_latitude (places_at cell.now)) result }
+    ensures made { IfSome made.new (IsDirectionOf (grid_latitude (places_at cell.now))) }
+{
+    if let Some(direction) = *made {
+        return direction;
+    }
+    let direction = latitude_direction(places_at(cell));
+    *made = Some(direction);
+    direction
+}
+
+// The sidereal times over a cell, made once for the quarters above each other.
+fn sidereal_time_of(made: &mut Option<Direction>, scene: &Scene, cell: &Cell) -> Direction
+    requires cell { IsCell cell.now }
+    requires made { IfSome made.old (IsDirectionOf (grid_sidereal_time (terms_of scene.now.sun) (minutes_of scene.now.minutes) (places_at cell.now))) }
+    ensures value { IsDirectionOf (grid_sidereal_time (terms_of scene.now.sun) (minutes_of scene.now.minutes) (places_at cell.now)) result }
+    ensures made { IfSome made.new (IsDirectionOf (grid_sidereal_time (terms_of scene.now.sun) (minutes_of scene.now.minutes) (places_at cell.now))) }
+{
+    if let Some(direction) = *made {
+        return direction;
+    }
+    let direction = sidereal_direction(&scene.sun, scene.minutes, places_at(cell));
+    *made = Some(direction);
+    direction
+}
+
 // The value of a kind by the latitudes `phi` and the sidereal times `theta`, with the sine of its angles.
 #[tactic(auto, unfolding(crate::specs::Shared::value_by))]
 fn value_by(kind: Kind, sun: &Sun, phi: Direction, theta: Direction, sine: Interval) -> Interval
@@ -67,6 +105,31 @@ fn value_by(kind: Kind, sun: &Sun, phi: Direction, theta: Direction, sine: Inter
         Kind::Shadow { factor } => {
             asr_value_by(sun, altitude_sine_by(sun, phi, theta), phi, factor)
         }
+    }
+}
+
+// The value of a kind over a cell. The meridian value asks for no latitude.
+fn value_over(
+    kind: Kind,
+    scene: &Scene,
+    phi: &mut Option<Direction>,
+    theta: &mut Option<Direction>,
+    cell: &Cell,
+) -> Interval
+    requires kind { IsKind kind }
+    requires sine { IsSineOf kind scene.now.sine }
+    requires sun { terms_of scene.now.sun ≡ grid_sun (minutes_of scene.now.minutes) }
+    requires cell { IsCell cell.now }
+    requires latitude { IfSome phi.old (IsDirectionOf (grid_latitude (places_at cell.now))) }
+    requires sidereal_time { IfSome theta.old (IsDirectionOf (grid_sidereal_time (terms_of scene.now.sun) (minutes_of scene.now.minutes) (places_at cell.now))) }
+    ensures value { ends result ≡ grid_value grid_sun kind (minutes_of scene.now.minutes) (places_at cell.now) }
+    ensures latitude { IfSome phi.new (IsDirectionOf (grid_latitude (places_at cell.now))) }
+    ensures sidereal_time { IfSome theta.new (IsDirectionOf (grid_sidereal_time (terms_of scene.now.sun) (minutes_of scene.now.minutes) (places_at cell.now))) }
+{
+    let turned = sidereal_time_of(theta, scene, cell);
+    match kind {
+        Kind::Past => meridian_value_by(&scene.sun, turned),
+        _ => value_by(kind, &scene.sun, latitude_of(phi, cell), turned, scene.sine),
     }
 }
 
@@ -88,27 +151,29 @@ fn judged(kind: Kind, value: Interval, cell: &Cell, p: Point) -> Judged
 }
 
 impl Sky {
-    // The verdict on a cell of the root, whose latitudes, sidereal times and sun are at hand.
-    fn judge_by(
+    // The verdict on a quarter, by the latitudes and the sidereal times that the quarters before it made.
+    fn judge_quarter(
         &self,
         problem: &Problem,
-        sine: Interval,
-        sun: &Sun,
-        phi: Direction,
-        theta: Direction,
+        scene: &Scene,
+        phi: &mut Option<Direction>,
+        theta: &mut Option<Direction>,
         cell: &Cell,
     ) -> Judged
-        requires sine { IsSineOf problem.now.kind sine }
-        requires sun { terms_of sun.now ≡ grid_sun (minutes_at (row_of problem.now) cell.now) }
-        requires latitude { IsDirectionOf (grid_latitude (places_at cell.now)) phi }
-        requires sidereal_time { IsDirectionOf (grid_sidereal_time (terms_of sun.now) (minutes_at (row_of problem.now) cell.now) (places_at cell.now)) theta }
+        requires sine { IsSineOf problem.now.kind scene.now.sine }
+        requires minutes { minutes_of scene.now.minutes ≡ minutes_at (row_of problem.now) cell.now }
+        requires sun { terms_of scene.now.sun ≡ grid_sun (minutes_of scene.now.minutes) }
         requires cell { IsCellOf self.now.root cell.now }
-        ensures { result.verdict ≡ verdict_on grid_sun (row_of problem.now) self.now.district cell.now }
+        requires latitude { IfSome phi.old (IsDirectionOf (grid_latitude (places_at cell.now))) }
+        requires sidereal_time { IfSome theta.old (IsDirectionOf (grid_sidereal_time (terms_of scene.now.sun) (minutes_of scene.now.minutes) (places_at cell.now))) }
+        ensures verdict { result.verdict ≡ verdict_on grid_sun (row_of problem.now) self.now.district cell.now }
+        ensures latitude { IfSome phi.new (IsDirectionOf (grid_latitude (places_at cell.now))) }
+        ensures sidereal_time { IfSome theta.new (IsDirectionOf (grid_sidereal_time (terms_of scene.now.sun) (minutes_of scene.now.minutes) (places_at cell.now))) }
     {
         match self.named(cell) {
             Some(p) => judged(
                 problem.kind,
-                value_by(problem.kind, sun, phi, theta, sine),
+                value_over(problem.kind, scene, phi, theta, cell),
                 cell,
                 p,
             ),
@@ -120,7 +185,7 @@ impl Sky {
     }
 
     /// The verdicts on the four quarters of a cell, in tree order, under the same conditions as
-    /// `judge_for`. The sun, each latitude and each longitude is asked once.
+    /// `judge_for`. The sun is asked once, and each latitude and each longitude at most once.
     pub fn judge_quarters_for(&self, problem: &Problem, sine: Interval, cell: &Cell) -> [Judged; 4]
         requires sine { IsSineOf problem.now.kind sine }
         requires cell { IsCellOf self.now.root cell.now }
@@ -131,17 +196,14 @@ impl Sky {
         let quarters = quarters_of(cell);
         let minutes = minutes_at(problem, cell);
         let sun = sun(minutes);
-        let near = places_at(&quarters.south_west);
-        let far = places_at(&quarters.north_east);
-        let south = latitude_direction(near);
-        let north = latitude_direction(far);
-        let west = sidereal_direction(&sun, minutes, near);
-        let east = sidereal_direction(&sun, minutes, far);
+        let scene = Scene { sine, minutes, sun };
+        let (mut south, mut north) = (None, None);
+        let (mut west, mut east) = (None, None);
         [
-            self.judge_by(problem, sine, &sun, south, west, &quarters.south_west),
-            self.judge_by(problem, sine, &sun, south, east, &quarters.south_east),
-            self.judge_by(problem, sine, &sun, north, west, &quarters.north_west),
-            self.judge_by(problem, sine, &sun, north, east, &quarters.north_east),
+            self.judge_quarter(problem, &scene, &mut south, &mut west, &quarters.south_west),
+            self.judge_quarter(problem, &scene, &mut south, &mut east, &quarters.south_east),
+            self.judge_quarter(problem, &scene, &mut north, &mut west, &quarters.north_west),
+            self.judge_quarter(problem, &scene, &mut north, &mut east, &quarters.north_east),
         ]
     }
 }

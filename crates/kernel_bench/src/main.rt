@@ -15,7 +15,8 @@ use anyhow::{Context, Result, bail};
 use std::alloc::Global;
 use std::env;
 
-const USAGE: &str = "usage: kernel_bench series|contains|meets|meets_by_strip COUNT | json | cells[_in_tree_order]";
+const USAGE: &str =
+    "usage: kernel_bench series|contains|meets|meets_by_strip COUNT | json | cells[_in_tree_order]";
 
 fn main(rt: HostRuntime) -> Result<()> {
     let mut words = env::args(&rt)?.skip(1);
