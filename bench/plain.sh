@@ -2,9 +2,10 @@
 # What `plain` takes on the standard orders: plain.sh [PROGRAM [NAME]..]
 # The program is the proved one where none or `-` is given; with no names, all orders of standard_orders.py.
 # Each order runs three times, and the least processor time counts. The cells that its searches judge are counted by
-# `kernel_bench`, which makes the same ones. Where valgrind is there, the instructions of one more run are counted,
-# the reading of the order and the writing of the table included, which takes some fifty times as long. It is given a
-# copy without names, since it doesn't read every compiler's.
+# `kernel_bench`, which makes the same ones, and beside them those that a search in tree order would judge. Where
+# valgrind is there, the instructions of one more run are counted, the reading of the order and the writing of the table
+# included, which takes some fifty times as long; they are divided by the cells in tree order, which no order of the
+# search changes. It is given a copy without names, since it doesn't read every compiler's.
 set -euo pipefail
 top=$(cd "$(dirname "$0")/.." && pwd)
 work=$(mktemp -d)
@@ -37,13 +38,14 @@ instructions() {
 measure() {
     local order=$work/$1.json
     python3 "$top/bench/standard_orders.py" "$1" >"$order"
-    local seconds cells counted=
+    local seconds cells in_tree_order counted=
     seconds=$(least_time "$order")
     cells=$("$kernels" cells <"$order")
+    in_tree_order=$("$kernels" cells_in_tree_order <"$order")
     if command -v valgrind >/dev/null; then
-        counted=$(instructions "$order" "$cells")
+        counted=$(instructions "$order" "$in_tree_order")
     fi
-    echo "$1: $seconds s, $cells cells judged$counted; $(tail -n 1 "$work/table")"
+    echo "$1: $seconds s, $cells cells judged, $in_tree_order in tree order$counted; $(tail -n 1 "$work/table")"
 }
 
 if [ $# -eq 0 ]; then

@@ -61,19 +61,27 @@ grid_latitude box = scaled box.y 1_125
 unfoldable pub grid_sidereal_time : SunTerms → Range → Box → Range
 grid_sidereal_time s m box = added (added (scaled m 36_000_000_000) (scaled box.x 1_125)) s.q
 
+-- by the sine and the cosine of the latitude φ, and those of the sidereal time θ
+abbrev pub altitude_by : SunTerms → Ends → Ends → Ends → Ends → Ends
+altitude_by s sin_φ cos_φ sin_θ cos_θ =
+    grid_sum
+    (grid_product (grid_product sin_φ s.sin_e) s.sin_l)
+    (grid_product cos_φ (grid_sum (grid_product cos_θ s.cos_l) (grid_product (grid_product sin_θ s.cos_e) s.sin_l)))
+
 unfoldable pub grid_altitude_sine : SunTerms → Range → Box → Ends
 grid_altitude_sine s m box =
     let φ = grid_latitude box in
     let θ = grid_sidereal_time s m box in
-    grid_sum
-    (grid_product (grid_product (grid_sine φ) s.sin_e) s.sin_l)
-    (grid_product (grid_cosine φ)
-    (grid_sum (grid_product (grid_cosine θ) s.cos_l) (grid_product (grid_product (grid_sine θ) s.cos_e) s.sin_l)))
+    altitude_by s (grid_sine φ) (grid_cosine φ) (grid_sine θ) (grid_cosine θ)
 
 unfoldable pub grid_altitude_value : SunTerms → Range → Box → Range → Ends
 grid_altitude_value s m box angle = grid_sum (grid_altitude_sine s m box) (grid_sine angle)
 
+abbrev pub meridian_by : SunTerms → Ends → Ends → Ends
+meridian_by s sin_θ cos_θ =
+    grid_difference (grid_product sin_θ s.cos_l) (grid_product (grid_product cos_θ s.cos_e) s.sin_l)
+
 unfoldable pub grid_meridian_value : SunTerms → Range → Box → Ends
 grid_meridian_value s m box =
     let θ = grid_sidereal_time s m box in
-    grid_difference (grid_product (grid_sine θ) s.cos_l) (grid_product (grid_product (grid_cosine θ) s.cos_e) s.sin_l)
+    meridian_by s (grid_sine θ) (grid_cosine θ)

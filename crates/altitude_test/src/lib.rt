@@ -10,8 +10,11 @@ pub mod laws;
 mod products;
 mod values;
 
-pub use directions::{Direction, latitude_direction};
-pub use values::{altitude_sine, altitude_sine_at, altitude_value, meridian_value};
+pub use directions::{Direction, latitude_direction, sidereal_direction};
+pub use values::{
+    altitude_sine, altitude_sine_at, altitude_sine_by, altitude_value, meridian_value,
+    meridian_value_by,
+};
 
 /// A closed box of places in place units of 1/128 microdegree: `x` is the longitude, positive to the east, `y` the latitude.
 ///

@@ -5,11 +5,10 @@ ghost use Rattle.fixed_interval.specs.Interval.{ends};
 ghost use Rattle.trig_series.specs.Angle.{range_of};
 ghost use Rattle.trig_series.specs.Sine.{grid_sine, grid_cosine};
 ghost use Rattle.solar_terms.specs.Sun.{minutes_of, terms_of};
-ghost use Rattle.altitude_test.specs.Values.{box_of, grid_latitude, grid_altitude_sine, grid_altitude_value, grid_meridian_value};
+ghost use Rattle.altitude_test.specs.Values.{box_of, altitude_by, grid_latitude, grid_altitude_sine, grid_altitude_value, grid_meridian_value, meridian_by};
 
 use crate::Place;
-use crate::angles::sidereal_time;
-use crate::directions::{Direction, direction_of, latitude_direction};
+use crate::directions::{Direction, latitude_direction, sidereal_direction};
 use crate::products::{product_of_three, product_of_two};
 use fixed_interval::Interval;
 use solar_terms::{Minutes, Sun};
@@ -47,15 +46,24 @@ pub fn altitude_sine(s: &Sun, m: Minutes, p: Place) -> Interval
 }
 
 /// The same, with the sine and the cosine of the places' latitudes already made.
-#[tactic(auto, unfolding(crate::specs::Values::grid_altitude_sine), using(fixed_interval::proofs::Sizes::abs_sum))]
+#[tactic(auto, unfolding(crate::specs::Values::grid_altitude_sine))]
 pub fn altitude_sine_at(s: &Sun, m: Minutes, p: Place, phi: Direction) -> Interval
     requires sine { ends phi.sine ≡ grid_sine (grid_latitude (box_of p)) }
     requires cosine { ends phi.cosine ≡ grid_cosine (grid_latitude (box_of p)) }
     ensures value { ends result ≡ grid_altitude_sine (terms_of s.now) (minutes_of m) (box_of p) }
     ensures bound { reach (ends result) ≤ 8 * UNIT }
 {
+    altitude_sine_by(s, phi, sidereal_direction(s, m, p))
+}
+
+/// The same by the latitude `phi` and the sidereal time `theta`, wherever these were made.
+#[tactic(auto, using(fixed_interval::proofs::Sizes::abs_sum))]
+pub fn altitude_sine_by(s: &Sun, phi: Direction, theta: Direction) -> Interval
+    ensures value { ends result ≡ altitude_by (terms_of s.now) (ends phi.sine) (ends phi.cosine) (ends theta.sine) (ends theta.cosine) }
+    ensures bound { reach (ends result) ≤ 8 * UNIT }
+{
     let up = product_of_three(phi.sine, s.sin_e, s.sin_l);
-    up.sum(level_part(s, phi, direction_of(sidereal_time(s, m, p))))
+    up.sum(level_part(s, phi, theta))
 }
 
 /// The altitude value for every angle of a range: above zero where the sun is above each of these angles below
@@ -74,7 +82,13 @@ pub fn altitude_value(s: &Sun, m: Minutes, p: Place, angle: Angle) -> Interval
 pub fn meridian_value(s: &Sun, m: Minutes, p: Place) -> Interval
     ensures { ends result ≡ grid_meridian_value (terms_of s.now) (minutes_of m) (box_of p) }
 {
-    let theta = direction_of(sidereal_time(s, m, p));
+    meridian_value_by(s, sidereal_direction(s, m, p))
+}
+
+/// The same by the sidereal time `theta`, wherever it was made.
+pub fn meridian_value_by(s: &Sun, theta: Direction) -> Interval
+    ensures { ends result ≡ meridian_by (terms_of s.now) (ends theta.sine) (ends theta.cosine) }
+{
     let east = product_of_two(theta.sine, s.cos_l);
     east.difference(product_of_three(theta.cosine, s.cos_e, s.sin_l))
 }

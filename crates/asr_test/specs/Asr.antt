@@ -61,32 +61,44 @@ grid_sine_declination s = grid_product s.sin_e s.sin_l
 unfoldable pub grid_cosine_declination : SunTerms → Ends
 grid_cosine_declination s = let w = grid_sine_declination s in grid_root (grid_difference grid_one (grid_product w w))
 
+-- by the sine and the cosine of the latitude φ
+abbrev pub noon_cosine_by : SunTerms → Ends → Ends → Ends
+noon_cosine_by s sin_φ cos_φ =
+    grid_sum (grid_product cos_φ (grid_cosine_declination s)) (grid_product sin_φ (grid_sine_declination s))
+
 unfoldable pub grid_noon_cosine : SunTerms → Box → Ends
-grid_noon_cosine s box =
-    let φ = grid_latitude box in
-    grid_sum
-    (grid_product (grid_cosine φ) (grid_cosine_declination s))
-    (grid_product (grid_sine φ) (grid_sine_declination s))
+grid_noon_cosine s box = let φ = grid_latitude box in noon_cosine_by s (grid_sine φ) (grid_cosine φ)
+
+abbrev pub noon_sine_by : SunTerms → Ends → Ends → Ends
+noon_sine_by s sin_φ cos_φ =
+    grid_difference (grid_product sin_φ (grid_cosine_declination s)) (grid_product cos_φ (grid_sine_declination s))
 
 unfoldable pub grid_noon_sine : SunTerms → Box → Ends
-grid_noon_sine s box =
-    let φ = grid_latitude box in
-    grid_difference
-    (grid_product (grid_sine φ) (grid_cosine_declination s))
-    (grid_product (grid_cosine φ) (grid_sine_declination s))
+grid_noon_sine s box = let φ = grid_latitude box in noon_sine_by s (grid_sine φ) (grid_cosine φ)
 
 unfoldable pub grid_times_factor : ℕ → Ends → Ends
 grid_times_factor factor a = if factor == 2 then grid_sum a a else a
 
-unfoldable pub grid_asr_shadow : SunTerms → Box → ℕ → Ends
-grid_asr_shadow s box factor =
-    grid_sum (grid_times_factor factor (grid_noon_cosine s box)) (grid_magnitude (grid_noon_sine s box))
+-- by the cosine and the sine of φ - d
+abbrev pub shadow_by : Ends → Ends → ℕ → Ends
+shadow_by cz sz factor = grid_sum (grid_times_factor factor cz) (grid_magnitude sz)
 
-unfoldable pub grid_asr_value : SunTerms → Range → Box → ℕ → Ends
-grid_asr_value s m box factor =
-    let S = grid_altitude_sine s m box in
-    let cz = grid_noon_cosine s box in
-    let v = grid_asr_shadow s box factor in
+unfoldable pub grid_asr_shadow : SunTerms → Box → ℕ → Ends
+grid_asr_shadow s box factor = shadow_by (grid_noon_cosine s box) (grid_noon_sine s box) factor
+
+-- by the sine of the altitude, the cosine of φ - d and the shadow
+abbrev pub asr_by : Ends → Ends → Ends → Ends
+asr_by S cz v =
     grid_difference
     (grid_product (grid_difference grid_one (grid_product S S)) (grid_product cz cz))
     (grid_product (grid_signed_square S) (grid_product v v))
+
+unfoldable pub grid_asr_value : SunTerms → Range → Box → ℕ → Ends
+grid_asr_value s m box factor =
+    asr_by (grid_altitude_sine s m box) (grid_noon_cosine s box) (grid_asr_shadow s box factor)
+
+-- by the sine of the altitude, and the sine and the cosine of the latitude φ
+abbrev pub asr_at_latitude : SunTerms → Ends → Ends → Ends → ℕ → Ends
+asr_at_latitude s S sin_φ cos_φ factor =
+    let cz = noon_cosine_by s sin_φ cos_φ in
+    asr_by S cz (shadow_by cz (noon_sine_by s sin_φ cos_φ) factor)

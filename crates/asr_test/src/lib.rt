@@ -6,4 +6,4 @@ pub mod laws;
 mod noon;
 mod value;
 
-pub use value::asr_value;
+pub use value::{asr_value, asr_value_by};

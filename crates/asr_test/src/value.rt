@@ -4,10 +4,10 @@ ghost use Rattle.fixed_interval.specs.Grid.{UNIT, reach, grid_sum, grid_differen
 ghost use Rattle.fixed_interval.specs.Interval.{ends};
 ghost use Rattle.solar_terms.specs.Sun.{minutes_of, terms_of};
 ghost use Rattle.altitude_test.specs.Values.{box_of};
-ghost use Rattle.asr_test.specs.Asr.{grid_one, grid_times_factor, grid_asr_value};
+ghost use Rattle.asr_test.specs.Asr.{asr_at_latitude, grid_one, grid_times_factor, grid_asr_value};
 
 use crate::noon::{declination_of, noon_cosine, noon_sine, one};
-use altitude_test::{Place, altitude_sine_at, latitude_direction};
+use altitude_test::{Direction, Place, altitude_sine_at, latitude_direction};
 use fixed_interval::Interval;
 use solar_terms::{Minutes, Sun};
 
@@ -111,8 +111,17 @@ pub fn asr_value(s: &Sun, m: Minutes, p: Place, factor: u8) -> Interval
     ensures { ends result ≡ grid_asr_value (terms_of s.now) (minutes_of m) (box_of p) factor }
 {
     let phi = latitude_direction(p);
+    asr_value_by(s, altitude_sine_at(s, m, p, phi), phi, factor)
+}
+
+/// The same by the sine of the altitude and the latitude `phi`, wherever these were made.
+pub fn asr_value_by(s: &Sun, sine: Interval, phi: Direction, factor: u8) -> Interval
+    requires sine_small { reach (ends sine) ≤ 8 * UNIT }
+    requires positive { 1 ≤ factor }
+    requires at_most_2 { factor ≤ 2 }
+    ensures { ends result ≡ asr_at_latitude (terms_of s.now) (ends sine) (ends phi.sine) (ends phi.cosine) factor }
+{
     let d = declination_of(s);
-    let sine = altitude_sine_at(s, m, p, phi);
     let cosine = noon_cosine(phi, d);
     let shadow = asr_shadow(cosine, noon_sine(phi, d), factor);
     level_part(sine, cosine).difference(upright_part(sine, shadow))

@@ -6,6 +6,7 @@ pub mod InBounds
 pub mod JudgeLemmas
 pub mod KindLaws
 pub mod NamedLemmas
+pub mod QuarterLemmas
 pub mod PointLemmas
 pub mod SkyLaws
 pub mod TruthLemmas

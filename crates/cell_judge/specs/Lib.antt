@@ -9,6 +9,7 @@ pub mod Each
 pub mod Tiles
 pub mod Sines
 pub mod Skies
+pub mod Shared
 pub mod Lawful
 pub mod SkyLaws
 pub mod KindLaws

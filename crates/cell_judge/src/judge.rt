@@ -14,7 +14,7 @@ use crate::sky::Sky;
 use crate::tiles::large_places;
 use crate::values::{minutes_at, places_at, value};
 use crate::verdicts::verdict_at;
-use cell_split::{Cell, Judge, Task, Verdict, rect_of, root_at};
+use cell_split::{Cell, Judge, Judged, Task, Verdict, rect_of, root_at};
 use fixed_interval::Interval;
 use method_table::Problem;
 use no_memory::NoMemory;
@@ -128,5 +128,10 @@ impl Judge for Sky {
     fn judge(&self, t: Task) -> Verdict {
         let k = t.problem as usize;
         self.judge_for(&self.problems[k], self.sines[k], &t.cell)
+    }
+
+    fn judge_quarters(&self, t: Task) -> [Judged; 4] {
+        let k = t.problem as usize;
+        self.judge_quarters_for(&self.problems[k], self.sines[k], &t.cell)
     }
 }

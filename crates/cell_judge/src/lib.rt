@@ -6,6 +6,7 @@ mod any_problem;
 mod judge;
 pub mod laws;
 mod named;
+mod quarters;
 mod sines;
 mod sky;
 mod tiles;

@@ -22,8 +22,8 @@ fn lies_below(value: Interval) -> bool
     value.hi < 0
 }
 
-// Whether the condition holds where the value is above zero.
-fn holds_above(kind: Kind) -> bool
+/// Whether the condition holds where the value is above zero.
+pub(crate) fn holds_above(kind: Kind) -> bool
     ensures { result ≡ holds_above kind }
 {
     match kind {

@@ -11,7 +11,7 @@ mod runs;
 mod settled;
 mod settling;
 
-pub use entry::{entry_by, entry_of};
+pub use entry::{entry_at, entry_by, entry_of};
 pub use laws::letters_are_those_of_the_children;
 pub use letter_walk::{is_cut, letter_of};
 pub use line::{cover_line, cover_line_1};

@@ -3,12 +3,16 @@ use Rattle.std.proofs.Common.{◌≡◌, ℕ, zero, suc, ◌+◌, ◌*◌, ◌/�
 use Rattle.std.specs.List.{AllByRecursion as Every}
 use Rattle.std.proofs.lemmas.List.{get_or-append_right, get_or-map, get_or_append_left, length-map}
 use Rattle.std.proofs.lemmas.List.Elements.{recursion_from_All}
+use Rattle.std.proofs.lemmas.Simd.{map-map}
 use Rattle.solar_terms.specs.Sun.{grid_sun}
 use Rattle.method_table.specs.declared.problem.Problem.{Problem}
 use Rattle.method_table.specs.Row.{Row, row_of}
 use Rattle.region.specs.Rings.{Polygon}
 use Rattle.cell_split.specs.declared.cell.Cell.{Cell}
+use Rattle.cell_split.specs.declared.cell.Task.{Task}
 use Rattle.cell_split.specs.declared.verdict.Verdict.{Verdict}
+use Rattle.cell_split.specs.Split.{children_of}
+use Rattle.cell_split.specs.Tree.{child_tasks, task_of}
 use Rattle.cell_split.proofs.Renumbering.{renumbered_trees}
 use Rattle.cell_judge.specs.Lawful.{skies_are_lawful}
 use Rattle.cell_judge.specs.Skies.{row_at, sky_content, verdict_on}
@@ -38,19 +42,33 @@ pub whole_days : (days : List Day) → Every IsWhole (map rows_of_day days)
 whole_days [] = tt
 whole_days (d ∷ days) = (length-map d.problems row_of ∙ d.counted, whole_days days)
 
+-- problem n, by its day
+row_is : (days : List Day) (n : ℕ) (d : Day) (e : Problem) → n / 7 < length days
+    → row_of (get_or (get_or days (n / 7) d).problems (n % 7) e) ≡ row_at (all_rows (map rows_of_day days)) n
+row_is days n d e inside =
+    let known : n % 7 < 7 = omega arith in
+    let same : 7 * (n / 7) + n % 7 ≡ n = omega arith in
+    let counted = (get_or days (n / 7) d).counted in
+    let P : ℕ → Type 0 = λ m. row_of (get_or (get_or days (n / 7) d).problems (n % 7) e) ≡ row_at (all_rows (map rows_of_day days)) m in
+    subst P same (sym (row_of_day (map rows_of_day days) (n / 7) (n % 7) (rows_of_day d) _ (whole_days days) (omega (arith, length-map days rows_of_day)) known
+    ∙ (ap (λ (l : List Row). row_at l (n % 7)) (get_or-map rows_of_day days (n / 7) d (rows_of_day d) inside)
+    ∙ get_or-map row_of (get_or days (n / 7) d).problems (n % 7) e _ (omega (arith, known, counted)))))
+
 -- the verdict on a task, by the row of its day
 pub judged : (polygons : List Polygon) (days : List Day) (n : ℕ) (cell : Cell) (d : Day) (e : Problem) (v : Verdict) → n / 7 < length days
     → v ≡ verdict_on grid_sun (row_of (get_or (get_or days (n / 7) d).problems (n % 7) e)) polygons cell
     → v ≡ verdict_on grid_sun (row_at (all_rows (map rows_of_day days)) n) polygons cell
 judged polygons days n cell d e v inside is =
-    let known : n % 7 < 7 = omega arith in
-    let same : 7 * (n / 7) + n % 7 ≡ n = omega arith in
-    let counted = (get_or days (n / 7) d).counted in
-    let P : ℕ → Type 0 = λ m. row_of (get_or (get_or days (n / 7) d).problems (n % 7) e) ≡ row_at (all_rows (map rows_of_day days)) m in
-    is ∙ ap (λ (row : Row). verdict_on grid_sun row polygons cell)
-    (subst P same (sym (row_of_day (map rows_of_day days) (n / 7) (n % 7) (rows_of_day d) _ (whole_days days) (omega (arith, length-map days rows_of_day)) known
-    ∙ (ap (λ (l : List Row). row_at l (n % 7)) (get_or-map rows_of_day days (n / 7) d (rows_of_day d) inside)
-    ∙ get_or-map row_of (get_or days (n / 7) d).problems (n % 7) e _ (omega (arith, known, counted))))))
+    is ∙ ap (λ (row : Row). verdict_on grid_sun row polygons cell) (row_is days n d e inside)
+
+-- and those on its quarters
+pub quarters_judged : (polygons : List Polygon) (root : Cell) (days : List Day) (t : Task) (d : Day) (e : Problem) (vs : List Verdict) → t.problem / 7 < length days
+    → vs ≡ map (verdict_on grid_sun (row_of (get_or (get_or days (t.problem / 7) d).problems (t.problem % 7) e)) polygons) (children_of t.cell)
+    → vs ≡ map (days_content polygons (map rows_of_day days) root).verdict (child_tasks t)
+quarters_judged polygons root days t d e vs inside is =
+    is
+    ∙ (ap (λ (row : Row). map (verdict_on grid_sun row polygons) (children_of t.cell)) (row_is days t.problem d e inside)
+    ∙ sym (map-map (days_content polygons (map rows_of_day days) root).verdict (task_of t.problem) (children_of t.cell)))
 
 pub own_trees : DaysHaveTheirOwnTrees
 own_trees polygons root is days each i rows inside own k known =

@@ -3,7 +3,7 @@ ghost use Rattle.std.specs.Prelude.{◌≡◌, ◌*◌, ◌<◌, ◌^◌, length
 
 use crate::day::Day;
 use cell_judge::Sky;
-use cell_split::{Cell, Judge, Task, Verdict};
+use cell_split::{Cell, Judge, Judged, Task, Verdict};
 
 /// The district of a sky under several days, over the sky's root: problem `7 * i + k` is problem `k` of
 /// day `i`. The sky's own day takes no part.
@@ -45,5 +45,12 @@ impl Judge for DaysSky<'_> {
         let day = &self.days[(t.problem / 7) as usize];
         let k = (t.problem % 7) as usize;
         self.sky.judge_for(&day.problems[k], day.sines[k], &t.cell)
+    }
+
+    fn judge_quarters(&self, t: Task) -> [Judged; 4] {
+        let day = &self.days[(t.problem / 7) as usize];
+        let k = (t.problem % 7) as usize;
+        self.sky
+            .judge_quarters_for(&day.problems[k], day.sines[k], &t.cell)
     }
 }

@@ -2,20 +2,19 @@
 ghost use Rattle.std.specs.Prelude.{◌<◌, ◌≤ℤ◌, pos, neg_ℤ};
 ghost use Rattle.cell_judge.specs.Limits.{AreInLimits};
 ghost use Rattle.order_reader.specs.Offsets.{IsOffset, first_day, last_day};
-ghost use Rattle.steal_pool.specs.Harvests.{IsHarvest};
 
 use crate::counting::Counting;
+use crate::tree_order::walk_problem;
 use anyhow::{Context, Result};
 use cell_judge::Sky;
 use cell_split::Judge;
-use covering::entry_of;
+use covering::entry_at;
 use method_table::{Problem, noon_of, problems};
 use order_reader::{Order, read_order};
 use region::District;
 use source_sink::{StdSource, read_all};
 use std::alloc::{AllocError, Global};
 use std::io::Read;
-use steal_pool::{Harvest, search_plain};
 
 const LIMIT: usize = 16_777_216;
 
@@ -28,6 +27,15 @@ struct Day {
 
 /// How many cells are judged for the table of the order that the input holds.
 pub fn judged<R: Read + Drop>(alloc: Global, input: R) -> Result<u64> {
+    counted(alloc, input, false)
+}
+
+/// How many cells a search in tree order would judge for it, open entries aside.
+pub fn judged_in_tree_order<R: Read + Drop>(alloc: Global, input: R) -> Result<u64> {
+    counted(alloc, input, true)
+}
+
+fn counted<R: Read + Drop>(alloc: Global, input: R, in_tree_order: bool) -> Result<u64> {
     let order = order_in(alloc, input)?;
     let days = days_of(alloc, &order)?;
     let first = days.first().context("no days")?;
@@ -37,7 +45,7 @@ pub fn judged<R: Read + Drop>(alloc: Global, input: R) -> Result<u64> {
     let mut judged = 0u64;
     for day in &days {
         sky.turn_to(day.problems);
-        judged = judged.wrapping_add(judged_under(alloc, &sky)?);
+        judged = judged.wrapping_add(judged_under(&sky, in_tree_order));
     }
     Ok(judged)
 }
@@ -101,18 +109,24 @@ fn near(longitude: i64) -> i64
 }
 
 // The cells judged for the day to which the sky is turned.
-fn judged_under(alloc: Global, sky: &Sky) -> Result<u64> {
+fn judged_under(sky: &Sky, in_tree_order: bool) -> u64 {
     let judge = Counting::new(sky);
-    let harvest = search_plain(alloc, &judge).ok().context("no memory")?;
-    judge_anew(&judge, &harvest);
-    Ok(judge.judged())
+    if in_tree_order {
+        walk_all(&judge);
+    } else {
+        search_all(&judge);
+    }
+    judge.judged()
 }
 
-// The cells that the entries take beyond the search.
-fn judge_anew<J: Judge>(judge: &J, harvest: &Harvest)
-    requires { IsHarvest (J.content judge.now) harvest.now.refuted harvest.now.leaves }
-{
+fn walk_all<J: Judge>(judge: &J) {
     for k in 0..judge.problems() {
-        let _ = entry_of(judge, harvest, k);
+        walk_problem(judge, k);
+    }
+}
+
+fn search_all<J: Judge>(judge: &J) {
+    for k in 0..judge.problems() {
+        let _ = entry_at(judge, k);
     }
 }

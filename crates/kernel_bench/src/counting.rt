@@ -1,6 +1,6 @@
 // A judge that counts the cells it judges.
 
-use cell_split::{Cell, Judge, Task, Verdict};
+use cell_split::{Cell, Judge, Judged, Task, Verdict};
 use std::sync::atomic::{AtomicU64, Ordering};
 
 /// Judges as another judge does.
@@ -40,5 +40,10 @@ impl<J: Judge> Judge for Counting<'_, J> {
     fn judge(&self, t: Task) -> Verdict {
         self.judged.fetch_add(1, Ordering::SeqCst);
         self.judge.judge(t)
+    }
+
+    fn judge_quarters(&self, t: Task) -> [Judged; 4] {
+        self.judged.fetch_add(4, Ordering::SeqCst);
+        self.judge.judge_quarters(t)
     }
 }

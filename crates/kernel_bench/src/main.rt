@@ -9,12 +9,14 @@ mod counting;
 mod json;
 mod series;
 mod sums;
+mod tree_order;
 
 use anyhow::{Context, Result, bail};
 use std::alloc::Global;
 use std::env;
 
-const USAGE: &str = "usage: kernel_bench series|contains|meets|meets_by_strip COUNT | json | cells";
+const USAGE: &str =
+    "usage: kernel_bench series|contains|meets|meets_by_strip COUNT | json | cells[_in_tree_order]";
 
 fn main(rt: HostRuntime) -> Result<()> {
     let mut words = env::args(&rt)?.skip(1);
@@ -22,6 +24,7 @@ fn main(rt: HostRuntime) -> Result<()> {
     let sum = match kernel.as_str() {
         "json" => json::items(rt.alloc(), rt.stdin())?,
         "cells" => cells::judged(rt.alloc(), rt.stdin())?,
+        "cells_in_tree_order" => cells::judged_in_tree_order(rt.alloc(), rt.stdin())?,
         kernel => {
             let count = words.next().context(USAGE)?;
             let count = count

@@ -1,6 +1,5 @@
 // The table of an order, searched and written day by day.
 ghost use Rattle.std.specs.Prelude.{◌≡◌, ◌<◌, ◌≤◌, ◌++◌, length, map, IfOk, All};
-ghost use Rattle.cell_judge.specs.Skies.{sky_content};
 ghost use Rattle.method_table.specs.Row.{row_of};
 ghost use Rattle.order_reader.specs.Asked.{asked_of};
 ghost use Rattle.order_table.specs.Made.{day_of, searched};
@@ -10,7 +9,6 @@ ghost use Rattle.order_table.specs.RightTable.{IsRightTable};
 ghost use Rattle.order_table.specs.Table.{day_found, day_text, day_undecided, days_text, days_undecided};
 ghost use Rattle.order_table.specs.Trees.{entries_of, entry_at, judge_of, table_of, undecided};
 ghost use Rattle.outcome.specs.Writing.{Writes};
-ghost use Rattle.steal_pool.specs.Harvests.{IsHarvest};
 ghost use Rattle.year_table.specs.Lines.{end_line};
 ghost use Rattle.year_table.specs.declared.head.SunChoice.TheVariants.{Usno};
 
@@ -19,44 +17,40 @@ use crate::ready::{Ready, prepare};
 use crate::text::{day_text, open_count};
 use cell_judge::Sky;
 use cell_split::Entry;
-use covering::entry_of;
-use no_memory::NoMemory;
+use covering::entry_at;
 use order_reader::Order;
 use outcome::Stop;
 use source_sink::{Sink, write_all};
 use std::alloc::Global;
-use steal_pool::{Harvest, search_plain};
 use year_table::end_line;
 
-/// The entry of a column on a day, from the harvest of a search for the sky that is turned to it.
-fn entry_in(sky: &Sky, harvest: &Harvest, day: &Day, column: u32) -> Entry
+/// The entry of a column on a day, by a search for the sky that is turned to it.
+fn entry_in(sky: &Sky, day: &Day, column: u32) -> Entry
     requires day { sky.now.problems ≡ day.now.problems }
-    requires harvest { IsHarvest (sky_content sky.now.district (map row_of sky.now.problems) sky.now.root) harvest.now.refuted harvest.now.leaves }
     requires column { column < 7 }
     ensures value { result ≡ entry_at (judge_of Usno sky.now.district sky.now.root (map row_of day.now.problems)) column }
     ensures printable { IsPrintable result }
 {
-    entry_of(sky, harvest, column)
+    entry_at(sky, column)
 }
 
-/// The entries of a day, each by a search of its whole tree; the sky is turned to that day.
-pub fn day_entries(alloc: Global, sky: &mut Sky, day: &Day) -> Result<[Entry; 7], NoMemory>
-    ensures entries { IfOk result (λ entries. entries ≡ entries_of Usno sky.old.district sky.old.root (map row_of day.now.problems)) }
-    ensures printable { IfOk result (All IsPrintable) }
+/// The entries of a day, each by a search of its tree; the sky is turned to that day. It takes no memory.
+pub fn day_entries(sky: &mut Sky, day: &Day) -> [Entry; 7]
+    ensures entries { result ≡ entries_of Usno sky.old.district sky.old.root (map row_of day.now.problems) }
+    ensures printable { All IsPrintable result }
     ensures district { sky.new.district ≡ sky.old.district }
     ensures root { sky.new.root ≡ sky.old.root }
 {
     sky.turn_to(day.problems);
-    let harvest = search_plain(alloc, sky)?;
-    Ok([
-        entry_in(sky, &harvest, day, 0),
-        entry_in(sky, &harvest, day, 1),
-        entry_in(sky, &harvest, day, 2),
-        entry_in(sky, &harvest, day, 3),
-        entry_in(sky, &harvest, day, 4),
-        entry_in(sky, &harvest, day, 5),
-        entry_in(sky, &harvest, day, 6),
-    ])
+    [
+        entry_in(sky, day, 0),
+        entry_in(sky, day, 1),
+        entry_in(sky, day, 2),
+        entry_in(sky, day, 3),
+        entry_in(sky, day, 4),
+        entry_in(sky, day, 5),
+        entry_in(sky, day, 6),
+    ]
 }
 
 /// Writes the lines of a day with these entries; answers how many of them are undecided.
@@ -91,9 +85,7 @@ fn search_day<K: Sink>(alloc: Global, sky: &mut Sky, day: &Day, out: &mut K) -> 
     ensures district { sky.new.district ≡ sky.old.district }
     ensures root { sky.new.root ≡ sky.old.root }
 {
-    let Ok(entries) = day_entries(alloc, sky, day) else {
-        return Err(Stop::NoMemory);
-    };
+    let entries = day_entries(sky, day);
     write_day(alloc, day, &entries, out)
 }
 

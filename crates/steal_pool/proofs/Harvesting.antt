@@ -1,7 +1,7 @@
 -- Searches of one problem after another make a harvest.
-use Rattle.std.proofs.Common.{◌≡◌, ℕ, suc, ◌+◌, ◌<◌, List, [], ◌∷◌, ◌++◌, filter, Contains, Option, None, sum_by, sym, refl, ap, ◌∙◌, append_assoc, subst, arith, add-one, length-append}
+use Rattle.std.proofs.Common.{◌≡◌, ℕ, suc, ◌+◌, ◌<◌, List, [], ◌∷◌, ◌++◌, Contains, Option, None, sym, refl, ap, ◌∙◌, append_assoc, subst, arith, add-one, length-append}
 use Rattle.std.proofs.lemmas.List.{append-nil, get_or_push, get_or_append_left}
-use Rattle.std.proofs.lemmas.List.Elements.{All-nil, All-append, All-weaker, Contains-append_left, Contains-append_right, filter-append}
+use Rattle.std.proofs.lemmas.List.Elements.{All-nil, All-append, All-weaker, Contains-append_left, Contains-append_right}
 use mathlib.Core.Logic.{dite}
 use native.Mathlib.Decide.{ℕ_discrete}
 use Rattle.cell_split.specs.declared.verdict.Leaf.{Leaf}
@@ -10,9 +10,10 @@ use Rattle.cell_split.specs.Tree.{root_task, leaves, all_leaves_to}
 use Rattle.cell_split.specs.Entries.{refuted_word}
 use Rattle.steal_pool.specs.Harvests.{word_of, words_of, is_above, IsHarvest}
 use Rattle.steal_pool.specs.Collected.{Collects, Continues, Searched}
+use Rattle.steal_pool.proofs.Collecting.{weight-append}
 
 pub searched-none : (c : Content) → Searched c 0 [] []
-searched-none c = record { counted = refl; refuted = λ k h. absurd (omega arith); above = λ words h. refl; part = All-nil (Contains []) }
+searched-none c = record { counted = refl; refuted = λ k h. absurd (omega arith); above = λ words h weight. refl; part = All-nil (Contains []) }
 
 pub searched-more : (c : Content) (n : ℕ) (ranks : List (Option ℕ)) (rank : Option ℕ) (earlier found : List Leaf)
     → Searched c n ranks earlier → Collects n (leaves c (root_task c n)) 0 (word_of rank) earlier found → Searched c (n + 1) (ranks ++ rank ∷ []) found
@@ -29,10 +30,10 @@ searched-more c n ranks rank earlier found before now =
       refuted = λ k h. dite (ℕ_discrete k n)
           (λ e. subst (λ (m : ℕ). words_of (ranks ++ rank ∷ []) m ≡ refuted_word (leaves c (root_task c m))) (sym e) (omega (arith, new, now.word)))
           (λ ne. old k (omega arith) ∙ before.refuted k (omega arith));
-      above = λ words h.
-          let p = before.above words (λ k lt. omega (arith, old k lt, h k (omega arith))) in
-          let q = now.above words (omega (arith, new, h n (omega arith))) in
-          filter-append (is_above words) earlier kept ∙ (ap (λ (l : List Leaf). l ++ filter (is_above words) kept) p ∙ (ap (λ (l : List Leaf). filter (is_above words) all ++ l) q ∙ sym (filter-append (is_above words) all next)));
+      above = λ words h weight.
+          weight-append weight (is_above words) earlier kept all next
+          (before.above words (λ k lt. omega (arith, old k lt, h k (omega arith))) weight)
+          (now.above words (omega (arith, new, h n (omega arith))) weight);
       part = All-append (Contains (all ++ next)) earlier kept
           (All-weaker (Contains all) (Contains (all ++ next)) (λ x in'. Contains-append_left all next x in') earlier before.part)
           (All-weaker (Contains next) (Contains (all ++ next)) (λ x in'. Contains-append_right all next x in') kept now.part);
@@ -42,7 +43,7 @@ pub harvested : (c : Content) (ranks : List (Option ℕ)) (found : List Leaf) �
 harvested c ranks found all = record {
   counted = all.counted;
   refuted = all.refuted;
-  above = λ weight. ap (sum_by weight) (all.above (words_of ranks) (λ k h. omega arith));
+  above = λ weight. all.above (words_of ranks) (λ k h. omega arith) weight;
   others = all.part;
 }
 

@@ -1,4 +1,5 @@
 pub mod TreeFacts
+pub mod Reordered
 pub mod Collecting
 pub mod Harvesting
 pub mod PartStarts

@@ -1,26 +1,27 @@
 -- What is taken in of the parts of a tree adds up.
 use Rattle.std.proofs.Common.{◌≡◌, ℕ, ◌+◌, ◌<◌, ◌≤◌, List, [], ◌∷◌, ◌++◌, length, max, Bool, true, false, cond, get_or, take, map, sym, refl, ap, ◌∙◌, subst, arith}
 use Rattle.std.specs.List.{flat_map}
+use Rattle.std.specs.List.Sorted.{IsPermutation}
 use Rattle.std.specs.Prelude.{nat_lt, ◌&&◌}
 use Rattle.std.proofs.lemmas.Bool.Decides.{nat_tests}
-use Rattle.std.proofs.lemmas.List.{take_all, take_more}
+use Rattle.std.proofs.lemmas.List.{get_or-map, length-map, take_all, take_more}
+use Rattle.std.proofs.lemmas.List.Sorted.{IsPermutation-map, IsPermutation-sym}
 use Rattle.cell_split.specs.declared.cell.Cell.{Cell}
 use Rattle.cell_split.specs.declared.cell.Task.{Task}
 use Rattle.cell_split.specs.declared.verdict.Leaf.{Leaf}
 use Rattle.cell_split.specs.Verdicts.{is_split, is_open, is_refuted}
 use Rattle.cell_split.specs.Judges.{Content, IsTask}
 use Rattle.cell_split.specs.Split.{children_of}
-use Rattle.cell_split.specs.Tree.{task_of, leaves}
+use Rattle.cell_split.specs.Tree.{child_tasks, task_of, leaves}
 use Rattle.cell_split.specs.Entries.{is_open_above, last_word, open_word, refuted_word}
 use Rattle.cell_split.proofs.Every.{Every}
 use Rattle.cell_split.proofs.TreeLemmas.{leaves_of_leaf, leaves_of_split}
 use Rattle.cell_split.proofs.LeafLemmas.{IsUnder, leaves_under}
+use Rattle.steal_pool.specs.declared.quarters.Quarter.{Quarter}
+use Rattle.steal_pool.specs.Quarters.{cells_of}
 use Rattle.steal_pool.specs.TopRanks.{AreTopWords, Rises, above}
-use Rattle.steal_pool.proofs.Collecting.{leaves_more, refuted_word-append, refuted_word-below}
-
-open_word-append : (word : ℕ) (xs ys : List Leaf) → open_word word (xs ++ ys) ≡ max (open_word word xs) (open_word word ys)
-open_word-append word [] ys = omega arith
-open_word-append word (x ∷ xs) ys = let h = open_word-append word xs ys in omega arith
+use Rattle.steal_pool.proofs.Collecting.{leaves_more, refuted_word-below}
+use Rattle.steal_pool.proofs.Reordered.{greatest-append, greatest_reordered}
 
 -- no leaf below a task is open above a rank that is at least the task's last
 none_open : (word : ℕ) (t : Task) (xs : List Leaf) → Every (IsUnder t) xs → t.cell.last < word → open_word word xs ≡ 0
@@ -43,11 +44,11 @@ rises-none r o = record { raised = omega arith; risen = λ word h. omega arith }
 -- one part after another
 pub rises-more : (r o s p t q : ℕ) (xs ys : List Leaf) → Rises xs r o s p → Rises ys s p t q → Rises (xs ++ ys) r o t q
 rises-more r o s p t q xs ys first second = record {
-  raised = omega (arith, first.raised, second.raised, refuted_word-append xs ys);
+  raised = omega (arith, first.raised, second.raised, greatest-append (λ l. is_refuted l.verdict) xs ys);
   risen = λ word h.
       let a = first.risen word (omega (arith, second.raised)) in
       let b = second.risen word h in
-      omega (arith, a, b, open_word-append word xs ys);
+      omega (arith, a, b, greatest-append (is_open_above word) xs ys);
 }
 
 -- a task that is left out
@@ -87,6 +88,37 @@ rises-child c k r o s p u q i cells d inside before now =
     let P : List Leaf → Type 0 = λ all. Rises all r o u q in
     subst P (sym (ap (λ (l : List Cell). flat_map (leaves c) (map (task_of k) l)) (take_more cells i d inside) ∙ leaves_more c k (take i cells) (get_or cells i d)))
     (rises-more r o s p u q (flat_map (leaves c) (map (task_of k) (take i cells))) (leaves c (task_of k (get_or cells i d))) before now)
+
+-- the parts in another order
+pub rises-reordered : {X : Type 0} (part : X → List Leaf) (r o s p : ℕ) (xs ys : List X) → IsPermutation xs ys → Rises (flat_map part xs) r o s p → Rises (flat_map part ys) r o s p
+rises-reordered part r o s p xs ys same all =
+    let greatest = greatest_reordered part (λ l. is_refuted l.verdict) xs ys same in
+    record {
+      raised = omega (arith, all.raised, greatest);
+      risen = λ word h. let opens = greatest_reordered part (is_open_above word) xs ys same in omega (arith, all.risen word h, opens);
+    }
+
+-- the next quarter
+pub rises-quarter : (c : Content) (k r o s p u q i : ℕ) (items : List Quarter) (d : Quarter) → i < length items
+    → Rises (flat_map (leaves c) (map (task_of k) (take i (cells_of items)))) r o s p → Rises (leaves c (task_of k (get_or items i d).cell)) s p u q
+    → Rises (flat_map (leaves c) (map (task_of k) (take (i + 1) (cells_of items)))) r o u q
+rises-quarter c k r o s p u q i items d inside before now =
+    let cell : Quarter → Cell = λ q. q.cell in
+    let P : Cell → Type 0 = λ d. Rises (leaves c (task_of k d)) s p u q in
+    rises-child c k r o s p u q i (cells_of items) d.cell (omega (arith, inside, length-map items cell)) before
+    (subst P (sym (get_or-map cell items i d d.cell inside)) now)
+
+-- all quarters of a task that is split, for the task
+pub rises-quarters : (c : Content) (t : Task) (items : List Quarter) (i r o s p : ℕ) → is_split (c.verdict t) ≡ true → IsPermutation (children_of t.cell) (cells_of items) → length items ≤ i
+    → Rises (flat_map (leaves c) (map (task_of t.problem) (take i (cells_of items)))) r o s p → Rises (leaves c t) r o s p
+rises-quarters c t items i r o s p split same end all =
+    let cells = cells_of items in
+    let tasks = map (task_of t.problem) cells in
+    let Q : List Leaf → Type 0 = λ below. Rises below r o s p in
+    let P : List Cell → Type 0 = λ l. Rises (flat_map (leaves c) (map (task_of t.problem) l)) r o s p in
+    let whole = subst P (take_all i cells (omega (arith, end, length-map items (λ (q : Quarter). q.cell)))) all in
+    let order = IsPermutation-sym (child_tasks t) tasks (IsPermutation-map (task_of t.problem) (children_of t.cell) cells same) in
+    subst Q (sym (leaves_of_split c t split)) (rises-reordered (leaves c) r o s p tasks (child_tasks t) order whole)
 
 -- all leaves of a problem
 pub top_words : (all : List Leaf) (r o : ℕ) → Rises all 0 0 r o → AreTopWords all r (above r o)

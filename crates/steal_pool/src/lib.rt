@@ -6,6 +6,7 @@ mod gate;
 mod harvest;
 mod parts;
 mod plain;
+mod quarters;
 mod ranks_alone;
 
 pub use gate::{Gate, OpenGate};

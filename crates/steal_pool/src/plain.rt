@@ -1,6 +1,7 @@
-// The search on one thread, from the first cell of a tree to the last.
+// The search on one thread.
 ghost use Rattle.std.specs.Prelude.{◌≡◌, ◌<◌, ◌≤◌, ◌++◌, ◌∷◌, [], ◌↔◌, true, IfOk, OnOk, IsTrue, if◌then◌else◌};
 ghost use Rattle.cell_split.specs.Judges.{IsTask};
+ghost use Rattle.cell_split.specs.Split.{children_of, split};
 ghost use Rattle.cell_split.specs.Verdicts.{is_split, is_refuted};
 ghost use Rattle.cell_split.specs.Tree.{leaves};
 ghost use Rattle.cell_split.specs.Entries.{last_word};
@@ -8,7 +9,8 @@ ghost use Rattle.steal_pool.specs.Harvests.{word_of, IsHarvest};
 ghost use Rattle.steal_pool.specs.Collected.{Collects, Continues};
 
 use crate::harvest::{Harvest, Leaves, Ranks};
-use cell_split::{Cell, Judge, Leaf, Task, children};
+use crate::quarters::quarters_in_turn;
+use cell_split::{Cell, Judge, Leaf, Task, Verdict, children};
 use no_memory::NoMemory;
 use std::alloc::Global;
 
@@ -60,17 +62,47 @@ fn visit<J: Judge>(
     if is_spared(*refuted, &task.cell) {
         return Ok(());
     }
-    let verdict = judge.judge(task);
-    if verdict.splits() {
-        visit_children(judge, task, refuted, found)
+    visit_judged(judge, task, judge.judge(task), refuted, found)
+}
+
+// The same for a task whose verdict is known.
+#[cycle(visits)]
+fn visit_judged<J: Judge>(
+    judge: &J,
+    task: Task,
+    verdict: Verdict,
+    refuted: &mut Option<u32>,
+    found: &mut Vec<Leaf>,
+) -> Result<(), NoMemory>
+    requires task { IsTask (J.content judge.now) task }
+    requires verdict { verdict ≡ (J.content judge.now).verdict task }
+    ensures { OnOk result (Collects task.problem (leaves (J.content judge.now) task)
+        (word_of refuted.old) (word_of refuted.new) found.old.items found.new.items) }
+{
+    if is_spared(*refuted, &task.cell) {
+        return Ok(());
+    }
+    if !verdict.splits() {
+        return keep(Leaf { task, verdict }, refuted, found);
+    }
+    let below = children(&task.cell);
+    if below.count == 4 {
+        visit_quarters(judge, task, refuted, found)
     } else {
-        keep(Leaf { task, verdict }, refuted, found)
+        visit_halves(
+            judge,
+            task,
+            &below.cells[..below.count as usize],
+            refuted,
+            found,
+        )
     }
 }
 
-// Searches the trees below the children of a task, the first child first.
+// Searches the trees below the quarters of a task. They are judged together, so that their leaves are
+// kept first, and then the most failing is searched.
 #[cycle(visits)]
-fn visit_children<J: Judge>(
+fn visit_quarters<J: Judge>(
     judge: &J,
     task: Task,
     refuted: &mut Option<u32>,
@@ -78,11 +110,36 @@ fn visit_children<J: Judge>(
 ) -> Result<(), NoMemory>
     requires task { IsTask (J.content judge.now) task }
     requires split { is_split ((J.content judge.now).verdict task) ≡ true }
+    requires quartered { (split task.cell).count ≡ 4 }
     ensures { OnOk result (Collects task.problem (leaves (J.content judge.now) task)
         (word_of refuted.old) (word_of refuted.new) found.old.items found.new.items) }
 {
-    let below = children(&task.cell);
-    for cell in &below.cells[..below.count as usize] {
+    for quarter in &quarters_in_turn(judge, task) {
+        let child = Task {
+            problem: task.problem,
+            cell: quarter.cell,
+        };
+        visit_judged(judge, child, quarter.verdict, refuted, found)?;
+    }
+    Ok(())
+}
+
+// Searches the trees below the halves of a task, the later ranks first.
+#[cycle(visits)]
+fn visit_halves<J: Judge>(
+    judge: &J,
+    task: Task,
+    halves: &[Cell],
+    refuted: &mut Option<u32>,
+    found: &mut Vec<Leaf>,
+) -> Result<(), NoMemory>
+    requires task { IsTask (J.content judge.now) task }
+    requires split { is_split ((J.content judge.now).verdict task) ≡ true }
+    requires halves { halves.now ≡ children_of task.cell }
+    ensures { OnOk result (Collects task.problem (leaves (J.content judge.now) task)
+        (word_of refuted.old) (word_of refuted.new) found.old.items found.new.items) }
+{
+    for cell in halves {
         let child = Task {
             problem: task.problem,
             cell: *cell,

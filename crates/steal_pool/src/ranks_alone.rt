@@ -2,13 +2,15 @@
 ghost use Rattle.std.specs.Prelude.{◌≡◌, ◌<◌, true, max, if◌then◌else◌};
 ghost use Rattle.cell_split.specs.Entries.{last_word};
 ghost use Rattle.cell_split.specs.Judges.{IsTask};
+ghost use Rattle.cell_split.specs.Split.{children_of, split};
 ghost use Rattle.cell_split.specs.Tree.{leaves, root_task};
 ghost use Rattle.cell_split.specs.Verdicts.{is_open, is_refuted, is_split};
 ghost use Rattle.steal_pool.specs.Harvests.{word_of};
 ghost use Rattle.steal_pool.specs.TopRanks.{AreTopWords, Rises, above};
 
 use crate::plain::is_spared;
-use cell_split::{Judge, Leaf, Task, Verdict, children};
+use crate::quarters::quarters_in_turn;
+use cell_split::{Cell, Judge, Leaf, Task, Verdict, children};
 
 /// What decides the entry of a problem.
 #[derive(Clone, Copy, Debug, PartialEq, Eq)]
@@ -61,24 +63,59 @@ fn rise<J: Judge>(judge: &J, task: Task, found: &mut TopRanks)
     if is_spared(found.refuted, &task.cell) {
         return;
     }
-    let verdict = judge.judge(task);
-    if verdict.splits() {
-        rise_children(judge, task, found);
-    } else {
-        take_in(Leaf { task, verdict }, found);
-    }
+    rise_judged(judge, task, judge.judge(task), found);
 }
 
-// Takes in the trees below the children of a task, the first child first.
+// The same for a task whose verdict is known.
 #[cycle(rises)]
-fn rise_children<J: Judge>(judge: &J, task: Task, found: &mut TopRanks)
+fn rise_judged<J: Judge>(judge: &J, task: Task, verdict: Verdict, found: &mut TopRanks)
     requires task { IsTask (J.content judge.now) task }
-    requires split { is_split ((J.content judge.now).verdict task) ≡ true }
+    requires verdict { verdict ≡ (J.content judge.now).verdict task }
     ensures { Rises (leaves (J.content judge.now) task)
         (word_of found.old.refuted) (word_of found.old.left_open) (word_of found.new.refuted) (word_of found.new.left_open) }
 {
+    if is_spared(found.refuted, &task.cell) {
+        return;
+    }
+    if !verdict.splits() {
+        return take_in(Leaf { task, verdict }, found);
+    }
     let below = children(&task.cell);
-    for cell in &below.cells[..below.count as usize] {
+    if below.count == 4 {
+        rise_quarters(judge, task, found);
+    } else {
+        rise_halves(judge, task, &below.cells[..below.count as usize], found);
+    }
+}
+
+// Takes in the trees below the quarters of a task in the plain search's order.
+#[cycle(rises)]
+fn rise_quarters<J: Judge>(judge: &J, task: Task, found: &mut TopRanks)
+    requires task { IsTask (J.content judge.now) task }
+    requires split { is_split ((J.content judge.now).verdict task) ≡ true }
+    requires quartered { (split task.cell).count ≡ 4 }
+    ensures { Rises (leaves (J.content judge.now) task)
+        (word_of found.old.refuted) (word_of found.old.left_open) (word_of found.new.refuted) (word_of found.new.left_open) }
+{
+    for quarter in &quarters_in_turn(judge, task) {
+        let child = Task {
+            problem: task.problem,
+            cell: quarter.cell,
+        };
+        rise_judged(judge, child, quarter.verdict, found);
+    }
+}
+
+// Takes in the trees below the halves of a task, the later ranks first.
+#[cycle(rises)]
+fn rise_halves<J: Judge>(judge: &J, task: Task, halves: &[Cell], found: &mut TopRanks)
+    requires task { IsTask (J.content judge.now) task }
+    requires split { is_split ((J.content judge.now).verdict task) ≡ true }
+    requires halves { halves.now ≡ children_of task.cell }
+    ensures { Rises (leaves (J.content judge.now) task)
+        (word_of found.old.refuted) (word_of found.old.left_open) (word_of found.new.refuted) (word_of found.new.left_open) }
+{
+    for cell in halves {
         let child = Task {
             problem: task.problem,
             cell: *cell,

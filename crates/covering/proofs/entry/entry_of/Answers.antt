@@ -1,30 +1,10 @@
-use Rattle.std.proofs.Common.{sym, ap, ◌∙◌, subst}
-use Rattle.cell_split.specs.Entries.{entry_by}
-use Rattle.steal_pool.specs.Harvests.{word_of}
-use Rattle.covering.specs.Entries.{IsEntryIn}
-use Rattle.covering.specs.Seeks.{open_of}
-use Rattle.covering.specs.Settles.{leaves_of}
-use Rattle.covering.proofs.Entering.{entry_in_root, open_in_frame}
-use Rattle.covering.proofs.Harvested.{harvested_rank}
+use Rattle.covering.proofs.Harvested.{harvested_open_rank, harvested_rank}
 use Rattle.covering.proofs.entry.entry_of.Goals as goal
 
-pub entry_by-requires-clause-refuted : goal.entry_by-requires-clause-refuted
-entry_by-requires-clause-refuted g c =
-    (harvested_rank _ c.args.k _ _ _ (g.met.J.Judge.lawful c.args.judge.now) c.requires.known c.requires.harvest c.refuted_rank-refuted.ensures).in_frame
+pub entry_from-requires-clause-refuted : goal.entry_from-requires-clause-refuted
+entry_from-requires-clause-refuted g c =
+    (harvested_rank _ c.args.k _ _ _ (g.met.J.Judge.lawful c.args.judge.now) c.requires.known c.requires.harvest c.refuted_rank-refuted.ensures).word
 
-pub entry_by-requires-clause-first : goal.entry_by-requires-clause-first
-entry_by-requires-clause-first g c =
-    open_in_frame _ c.args.k c.first_open.result (g.met.J.Judge.lawful c.args.judge.now) c.requires.known c.first_open.ensures
-
-pub returns-clause-value : goal.returns-clause-value
-returns-clause-value g c =
-    let rank = harvested_rank _ c.args.k _ _ _ (g.met.J.Judge.lawful c.args.judge.now) c.requires.known c.requires.harvest c.refuted_rank-refuted.ensures in
-    let first = open_of (leaves_of (g.J.Judge.content c.args.judge.now) c.args.k) in
-    c.entry_by.ensures ∙ (ap (entry_by (word_of c.refuted_rank-refuted.result)) c.first_open.ensures ∙ ap (λ word. entry_by word first) rank.word)
-
-pub returns-clause-in_root : goal.returns-clause-in_root
-returns-clause-in_root g c =
-    let content = g.J.Judge.content c.args.judge.now in
-    let rank = harvested_rank _ c.args.k _ _ _ (g.met.J.Judge.lawful c.args.judge.now) c.requires.known c.requires.harvest c.refuted_rank-refuted.ensures in
-    let is = c.entry_by.ensures ∙ ap (λ word. entry_by word c.first_open.result) rank.word in
-    subst (IsEntryIn content.root) (sym is) (entry_in_root content c.args.k c.first_open.result (g.met.J.Judge.lawful c.args.judge.now) c.requires.known c.first_open.ensures)
+pub entry_from-requires-clause-left_open : goal.entry_from-requires-clause-left_open
+entry_from-requires-clause-left_open g c =
+    harvested_open_rank _ c.args.k _ _ _ _ (g.met.J.Judge.lawful c.args.judge.now) c.requires.known c.requires.harvest c.refuted_rank-refuted.ensures c.open_rank.ensures
