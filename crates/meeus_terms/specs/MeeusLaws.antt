@@ -1,0 +1,15 @@
+-- What is true of Meeus's sun, as sentences.
+use Rattle.std.specs.Prelude.{◌≡◌, ◌≤◌, unsigned_abs}
+use Rattle.fixed_interval.specs.Grid.{Range}
+use Rattle.solar_terms.specs.SunLaws.{IsSunSource, GridHoldsSun}
+use Rattle.solar_terms.specs.SunWidths.{IsNarrowSun}
+use Rattle.meeus_terms.specs.Meeus.{exact_meeus, grid_meeus}
+
+-- it is a source of suns, and its grid form holds it
+pub record MeeusIsSound : Type 0 where
+  pub source : IsSunSource exact_meeus
+  pub grid : GridHoldsSun exact_meeus grid_meeus
+
+-- at one minute within the limits it is narrow
+abbrev pub MeeusIsNarrow : Type 0
+MeeusIsNarrow = (r : Range) → r.hi ≡ r.lo → unsigned_abs r.lo ≤ 53_200_000 → IsNarrowSun (grid_meeus r)
