@@ -2,14 +2,8 @@
 use Rattle.std.proofs.Common.{◌≡◌, ℕ, ◌+◌, ◌*◌, ℤ, pos, ◌+ℤ◌, ◌-ℤ◌, ◌*ℤ◌, arith, ap, refl}
 use Rattle.std.proofs.lemmas.Int.{ints}
 use borrow.Author.Differences.{up, down}
+use Rattle.meeus_terms.specs.Polynomials.{quadratic_top, cubic_top}
 use Rattle.fixed_interval.proofs.Whole.{diff, parts_is, diff_is, diffs, diff_same}
-
--- the tops of the polynomials, over n n and n n n
-abbrev pub quadratic_top : ℤ → ℤ → ℤ → ℤ → ℕ → ℤ
-quadratic_top a b c p n = (a *ℤ pos (n * n)) +ℤ (p *ℤ ((b *ℤ pos n) +ℤ (p *ℤ c)))
-
-abbrev pub cubic_top : ℤ → ℤ → ℤ → ℤ → ℤ → ℕ → ℤ
-cubic_top a b c d p n = (a *ℤ pos (n * n * n)) +ℤ (p *ℤ quadratic_top b c d p n)
 
 -- q / m - p / n, over n m
 abbrev pub gap : ℤ → ℤ → ℕ → ℕ → ℤ

@@ -13,9 +13,9 @@ use Rattle.solar_terms.proofs.Narrowing.{sine_narrows, cosine_narrows}
 use Rattle.solar_terms.proofs.RangeLaws.{exactly_ordered, exactly_holds, added_holds, subtracted_holds}
 use Rattle.meeus_terms.specs.Meeus.{mean_longitude, mean_anomaly, node, first_coefficient, second_coefficient, centre, longitude, mean_obliquity, obliquity, exact_meeus, grid_mean_longitude, grid_mean_anomaly, grid_node, grid_first_coefficient, grid_second_coefficient, grid_centre, grid_longitude, grid_mean_obliquity, grid_obliquity, grid_meeus}
 use Rattle.meeus_terms.specs.MeeusLaws.{MeeusIsSound}
-use Rattle.meeus_terms.proofs.Lines.{IsWithin, line_holds, order_of_held, grid_line_within}
+use Rattle.meeus_terms.proofs.LineLaws.{IsWithin, line_holds, order_of_held, grid_line_within}
 use Rattle.meeus_terms.proofs.Products.{AreFactors, scale_between_holds}
-use Rattle.meeus_terms.proofs.Terms.{mean_longitude_line, mean_anomaly_line, node_line, first_coefficient_line, second_coefficient_line, mean_obliquity_line, all_first_coefficients, all_second_coefficients, first_coefficients, second_coefficients}
+use Rattle.meeus_terms.proofs.Terms.{mean_longitude_line, mean_anomaly_line, node_line, first_coefficient_line, second_coefficient_line, mean_obliquity_line, all_first_coefficients, all_second_coefficients, all_mean_obliquities, first_coefficients, second_coefficients, mean_obliquities}
 
 ruleset orders = (exactly_ordered, sum_ordered, difference_ordered, product_ordered, scale_units_ordered, sine_ordered, cosine_ordered)
 
@@ -102,6 +102,10 @@ first_coefficient_within = grid_line_within _ first_coefficient_line _ first_coe
 pub second_coefficient_within : (r : Range) → r.lo ≤ℤ r.hi → IsWithin (grid_second_coefficient r) all_second_coefficients
 unfolding grid_second_coefficient
 second_coefficient_within = grid_line_within _ second_coefficient_line _ second_coefficients
+
+pub mean_obliquity_within : (r : Range) → r.lo ≤ℤ r.hi → IsWithin (grid_mean_obliquity r) all_mean_obliquities
+unfolding grid_mean_obliquity
+mean_obliquity_within = grid_line_within _ mean_obliquity_line _ mean_obliquities
 
 -- a sine and a coefficient
 ends_in_order : (a : Ends) → IsOrdered (enclosure_of a) → a.lo ≤ℤ a.hi

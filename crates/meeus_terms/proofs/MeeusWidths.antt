@@ -21,10 +21,9 @@ use Rattle.trig_series.proofs.SineWidths.{grid_sine_narrow, grid_cosine_narrow}
 use Rattle.solar_terms.specs.Ranges.{whole, added, subtracted}
 use Rattle.meeus_terms.specs.Meeus.{mean_longitude, mean_anomaly, node, first_coefficient, second_coefficient, mean_obliquity, grid_mean_longitude, grid_mean_anomaly, grid_node, grid_first_coefficient, grid_second_coefficient, grid_centre, grid_longitude, grid_mean_obliquity, grid_obliquity, grid_meeus}
 use Rattle.meeus_terms.specs.MeeusLaws.{MeeusIsNarrow}
-use Rattle.meeus_terms.specs.Scaled.{grid_scale_between}
-use Rattle.meeus_terms.proofs.Lines.{IsWithin, IsOneUnit, rising_at_one, falling_at_one, grid_line_within}
-use Rattle.meeus_terms.proofs.MeeusLaws.{first_coefficient_within, second_coefficient_within}
-use Rattle.meeus_terms.proofs.Terms.{mean_obliquity_line, all_mean_obliquities, mean_obliquities}
+use Rattle.meeus_terms.specs.Scaled.{hull_of, grid_scale_between}
+use Rattle.meeus_terms.proofs.LineLaws.{IsWithin, IsOneUnit, rising_at_one, falling_at_one}
+use Rattle.meeus_terms.proofs.MeeusLaws.{first_coefficient_within, second_coefficient_within, mean_obliquity_within}
 
 -- a range of at most u units more than one
 record IsNarrow (u : ℕ) (r : Range) : Type 0 where
@@ -104,7 +103,8 @@ products_near a m n h k b =
     let e : m + (n - m) ≡ n = omega arith in
     subst (λ (j : ℕ). AreNear (grid_scale_units a m) (grid_scale_units a j)) e (further_near a m (n - m) (omega arith) b)
 
-joined_narrow : (r s : Range) → IsNarrow 2 r → IsNarrow 2 s → AreNear r s → IsNarrow 8 (record { lo = int_min r.lo s.lo; hi = int_max r.hi s.hi })
+joined_narrow : (r s : Range) → IsNarrow 2 r → IsNarrow 2 s → AreNear r s → IsNarrow 8 (hull_of r s)
+unfolding hull_of
 joined_narrow r s h k n = record { ordered = omega (arith, ints, clamps, h.ordered); narrow = omega (arith, ints, clamps, h.narrow, n.low, n.high) }
 
 between_narrow : (a : Ends) (c s : Range) → IsBounded a (sine_bound 4) → IsOneUnit c → IsWithin c s → pos 0 ≤ℤ s.lo → s.hi ≤ℤ pos (2 ^ 39) → IsNarrow 8 (grid_scale_between a c)
@@ -166,14 +166,10 @@ sine_of_obliquities : grid_sine all_obliquities ≡ sines
 unfolding grid_sine grid_over_quarters first_quarter last_quarter grid_hull_from grid_sine_beyond grid_piece grid_quarters_on grid_pi pi machin arctan_term arctan_below arctan_above over plus negate times rounded_out floor_at ceil_at least greatest point negated sum product divide_by magnitude times_ratio enclosure_of enclosure_of_range grid_negated grid_sum grid_product grid_divide_by grid_times_ratio next_grid_term grid_term grid_partial_sum margin grid_margin grid_series grid_sine_series
 sine_of_obliquities = refl
 
-mean_obliquity_within : (r : Range) → r.hi ≡ r.lo → IsWithin (grid_mean_obliquity r) all_mean_obliquities
-unfolding grid_mean_obliquity
-mean_obliquity_within r e = grid_line_within _ mean_obliquity_line _ mean_obliquities r (omega (arith, ints, e))
-
 obliquity_among : (r : Range) → r.hi ≡ r.lo → LiesIn (enclosure_of_range (grid_obliquity r)) (enclosure_of_range all_obliquities)
 unfolding grid_obliquity added
 obliquity_among r e =
-    let mean = mean_obliquity_within r e in
+    let mean = mean_obliquity_within r (omega (arith, ints, e)) in
     let nutation = nutation_of_obliquity r e in
     ranges_lie _ all_obliquities (omega (arith, ints, mean.low, nutation.size)) (omega (arith, ints, mean.high, nutation.size))
 

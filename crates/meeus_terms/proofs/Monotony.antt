@@ -6,8 +6,8 @@ use Rattle.fixed_interval.specs.Fraction.{Fraction, ◌≤ᶠ◌, over, plus, ti
 use Rattle.fixed_interval.proofs.FractionLaws.{≤ᶠ_refl, plus_mono, times_anti, times_mono}
 use Rattle.fixed_interval.proofs.Sizes.{abs_sum, abs_product, abs-scaled}
 use Rattle.fixed_interval.proofs.Whole.{one_part, plus-times, flat}
-use Rattle.meeus_terms.specs.Polynomials.{linear, quadratic, cubic}
-use Rattle.meeus_terms.proofs.Differences.{quadratic_top, cubic_top, gap, slope, quadratic_difference, cubic_difference}
+use Rattle.meeus_terms.specs.Polynomials.{linear, quadratic, cubic, linear_top, quadratic_top, cubic_top}
+use Rattle.meeus_terms.proofs.Differences.{gap, slope, quadratic_difference, cubic_difference}
 
 -- at most two centuries from the epoch
 pub record IsNear (t : Fraction) : Type 0 where
@@ -15,11 +15,11 @@ pub record IsNear (t : Fraction) : Type 0 where
 
 -- ---- the polynomials as tops over powers of the bottom
 
-linear_is : (a b : ℤ) (t : Fraction) → ((linear a b t).top ≡ (a *ℤ pos t.bottom) +ℤ (t.top *ℤ b)) × ((linear a b t).bottom ≡ t.bottom)
+pub linear_is : (a b : ℤ) (t : Fraction) → ((linear a b t).top ≡ linear_top a b t.top t.bottom) × ((linear a b t).bottom ≡ t.bottom)
 unfolding linear plus times over
 linear_is a b t = (omega (arith, ints), omega arith)
 
-by_one : (z : ℤ) → z *ℤ pos 1 ≡ z
+pub by_one : (z : ℤ) → z *ℤ pos 1 ≡ z
 by_one z = omega (arith, ints)
 
 -- what one more step of Horner's gives
@@ -43,13 +43,13 @@ cubic_is a b c d t =
 
 -- ---- signs
 
-rises_by : (g k : ℤ) → pos 0 ≤ℤ g → pos 0 ≤ℤ k → pos 0 ≤ℤ (g *ℤ k)
+pub rises_by : (g k : ℤ) → pos 0 ≤ℤ g → pos 0 ≤ℤ k → pos 0 ≤ℤ (g *ℤ k)
 rises_by g k s t =
     let u : down g ≡ 0 = omega (arith, ints, s, one_part g) in
     let v : down k ≡ 0 = omega (arith, ints, t, one_part k) in
     omega (arith, ints, ap (λ (z : ℕ). z * up k) u, ap (λ (z : ℕ). up g * z) v)
 
-falls_by : (g k : ℤ) → pos 0 ≤ℤ g → k ≤ℤ pos 0 → (g *ℤ k) ≤ℤ pos 0
+pub falls_by : (g k : ℤ) → pos 0 ≤ℤ g → k ≤ℤ pos 0 → (g *ℤ k) ≤ℤ pos 0
 falls_by g k s t =
     let u : down g ≡ 0 = omega (arith, ints, s, one_part g) in
     let v : up k ≡ 0 = omega (arith, ints, t, one_part k) in
@@ -63,12 +63,12 @@ sum_small p q n m h k =
     let v = abs-scaled q n (2 * m) k in
     omega (arith, s, u, v)
 
-slope_near : (b c p q : ℤ) (n m : ℕ) → unsigned_abs p ≤ 2 * n → unsigned_abs q ≤ 2 * m → unsigned_abs (c *ℤ ((p *ℤ pos m) +ℤ (q *ℤ pos n))) ≤ 4 * unsigned_abs c * (n * m)
+pub slope_near : (b c p q : ℤ) (n m : ℕ) → unsigned_abs p ≤ 2 * n → unsigned_abs q ≤ 2 * m → unsigned_abs (c *ℤ ((p *ℤ pos m) +ℤ (q *ℤ pos n))) ≤ 4 * unsigned_abs c * (n * m)
 slope_near b c p q n m h k =
     let s = abs_product c ((p *ℤ pos m) +ℤ (q *ℤ pos n)) (unsigned_abs c) (4 * (n * m)) (omega arith) (sum_small p q n m h k) in
     omega (arith, s)
 
-slope_above : (b c p q : ℤ) (n m : ℕ) → pos (4 * unsigned_abs c) ≤ℤ b → unsigned_abs p ≤ 2 * n → unsigned_abs q ≤ 2 * m → pos 0 ≤ℤ slope b c p q n m
+pub slope_above : (b c p q : ℤ) (n m : ℕ) → pos (4 * unsigned_abs c) ≤ℤ b → unsigned_abs p ≤ 2 * n → unsigned_abs q ≤ 2 * m → pos 0 ≤ℤ slope b c p q n m
 slope_above b c p q n m steep h k = at_least (c *ℤ ((p *ℤ pos m) +ℤ (q *ℤ pos n))) (n * m) (slope_near b c p q n m h k)
   where
     at_least : (z : ℤ) (u : ℕ) → unsigned_abs z ≤ 4 * unsigned_abs c * u → pos 0 ≤ℤ ((b *ℤ pos u) +ℤ z)
@@ -76,7 +76,7 @@ slope_above b c p q n m steep h k = at_least (c *ℤ ((p *ℤ pos m) +ℤ (q *�
         let t : 4 * unsigned_abs c + down b ≤ up b = omega (arith, ints, steep) in
         omega (arith, ints, s, mul-le-mul_right u t)
 
-slope_below : (b c p q : ℤ) (n m : ℕ) → b ≤ℤ neg_ℤ (pos (4 * unsigned_abs c)) → unsigned_abs p ≤ 2 * n → unsigned_abs q ≤ 2 * m → slope b c p q n m ≤ℤ pos 0
+pub slope_below : (b c p q : ℤ) (n m : ℕ) → b ≤ℤ neg_ℤ (pos (4 * unsigned_abs c)) → unsigned_abs p ≤ 2 * n → unsigned_abs q ≤ 2 * m → slope b c p q n m ≤ℤ pos 0
 slope_below b c p q n m steep h k = at_most (c *ℤ ((p *ℤ pos m) +ℤ (q *ℤ pos n))) (n * m) (slope_near b c p q n m h k)
   where
     at_most : (z : ℤ) (u : ℕ) → unsigned_abs z ≤ 4 * unsigned_abs c * u → ((b *ℤ pos u) +ℤ z) ≤ℤ pos 0
@@ -120,7 +120,7 @@ outweighed b y z s t u v steep h k =
     let x : up y ≤ s * u + down y = omega (arith, ints, h) in
     rw (plus-times (b *ℤ pos u) y (pos v), flat b u v) (omega (arith, ints, k, mul-le-mul_right (u * v) w, mul-le-mul_right v x))
 
-cubic_slope_below : (b c d p q : ℤ) (n m : ℕ) → b ≤ℤ neg_ℤ (pos (4 * unsigned_abs c + 12 * unsigned_abs d)) → unsigned_abs p ≤ 2 * n → unsigned_abs q ≤ 2 * m → ((quadratic_top b c d q m *ℤ pos (n * n)) +ℤ (p *ℤ (pos m *ℤ slope c d p q n m))) ≤ℤ pos 0
+pub cubic_slope_below : (b c d p q : ℤ) (n m : ℕ) → b ≤ℤ neg_ℤ (pos (4 * unsigned_abs c + 12 * unsigned_abs d)) → unsigned_abs p ≤ 2 * n → unsigned_abs q ≤ 2 * m → ((quadratic_top b c d q m *ℤ pos (n * n)) +ℤ (p *ℤ (pos m *ℤ slope c d p q n m))) ≤ℤ pos 0
 cubic_slope_below b c d p q n m steep h k =
     let x = unsigned_abs c in
     let y = unsigned_abs d in

@@ -8,7 +8,7 @@ use Rattle.fixed_interval.specs.Grid.{Ends, Range, UNIT, enclosure_of, enclosure
 use Rattle.fixed_interval.proofs.FractionLaws.{≤ᶠ_trans, least_above, greatest_below, over_mono, times_mono}
 use Rattle.fixed_interval.proofs.EnclosureLaws.{LiesIn_refl, LiesIn_trans, product_mono}
 use Rattle.fixed_interval.proofs.Inclusion.{scale_units_holds}
-use Rattle.meeus_terms.specs.Scaled.{grid_scale_between}
+use Rattle.meeus_terms.specs.Scaled.{hull_of, grid_scale_between}
 
 -- ends in order, and coefficients in order from 0
 pub record AreFactors (a : Ends) (r : Range) : Type 0 where
@@ -65,7 +65,7 @@ greatest_second : (x y : ℤ) → y ≤ℤ int_max x y
 greatest_second x y = omega (arith, ints, clamps)
 
 pub scale_between_holds : (x y : Enclosure) (a : Ends) (r : Range) → AreFactors a r → IsOrdered x → IsOrdered y → LiesIn x (enclosure_of a) → LiesIn y (enclosure_of_range r) → LiesIn (product x y) (enclosure_of_range (grid_scale_between a r))
-unfolding grid_scale_between
+unfolding grid_scale_between hull_of
 scale_between_holds x y a r f o p h k =
     let later : pos 0 ≤ℤ r.hi = omega (arith, ints, f.least, f.coefficients) in
     LiesIn_trans _ _ _ (product_mono _ _ _ _ o p h k)

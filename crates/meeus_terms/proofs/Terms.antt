@@ -6,7 +6,7 @@ use Rattle.fixed_interval.specs.Enclosure.{Enclosure}
 use Rattle.fixed_interval.specs.Grid.{Range, range_around}
 use Rattle.meeus_terms.specs.Polynomials.{held, centuries, linear, quadratic, cubic, rising, falling}
 use Rattle.meeus_terms.specs.Meeus.{mean_longitude, mean_anomaly, node, first_coefficient, second_coefficient, mean_obliquity}
-use Rattle.meeus_terms.proofs.Lines.{IsLine, limits, rising_line, falling_line}
+use Rattle.meeus_terms.proofs.LineLaws.{IsLine, limits, rising_line, falling_line}
 use Rattle.meeus_terms.proofs.Monotony.{linear_falls, quadratic_rises, quadratic_falls, cubic_falls}
 
 pub mean_longitude_line : IsLine mean_longitude

@@ -2,4 +2,7 @@
 // Contract: `meeus_sun(m)` is the grid form of Meeus's formulas over the minutes of m.
 #![tactic(auto)]
 
-pub fn nothing() {}
+mod lines;
+mod polynomials;
+mod ranges;
+mod scaled;
