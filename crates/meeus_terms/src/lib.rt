@@ -2,7 +2,11 @@
 // Contract: `meeus_sun(m)` is the grid form of Meeus's formulas over the minutes of m.
 #![tactic(auto)]
 
+pub mod laws;
 mod lines;
 mod polynomials;
 mod ranges;
 mod scaled;
+mod sun;
+
+pub use sun::meeus_sun;

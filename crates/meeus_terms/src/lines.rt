@@ -11,13 +11,14 @@ use solar_terms::Minutes;
 use trig_series::Angle;
 
 const SQUARE: u128 = (CENTURY * CENTURY) as u128;
+
 const CUBE: u128 = (CENTURY * CENTURY * CENTURY) as u128;
 
 // L0 at one minute, over the square of a century.
 fn mean_longitude_at(k: i64) -> i128
     requires { unsigned_abs k ≤ 53200000 }
     ensures value { result ≡ quadratic_top (pos 40387170240000) (pos 5184110855520000) (pos 43660800) k 52596000 }
-    ensures bound { unsigned_abs result ≤ 2 ^ 110 }
+    ensures bound { unsigned_abs result ≤ 2 ^ 105 }
 {
     quadratic(40_387_170_240_000, 5_184_110_855_520_000, 43_660_800, k)
 }
@@ -26,7 +27,7 @@ fn mean_longitude_at(k: i64) -> i128
 fn mean_anomaly_at(k: i64) -> i128
     requires { unsigned_abs k ≤ 53200000 }
     ensures value { result ≡ quadratic_top (pos 51484191840000) (pos 5183863241760000) (neg_ℤ (pos 22132800)) k 52596000 }
-    ensures bound { unsigned_abs result ≤ 2 ^ 110 }
+    ensures bound { unsigned_abs result ≤ 2 ^ 105 }
 {
     quadratic(51_484_191_840_000, 5_183_863_241_760_000, -22_132_800, k)
 }
@@ -44,7 +45,7 @@ fn node_at(k: i64) -> i128
 fn first_coefficient_at(k: i64) -> i128
     requires { unsigned_abs k ≤ 53200000 }
     ensures value { result ≡ quadratic_top (pos 275702688000) (neg_ℤ (pos 693648000)) (neg_ℤ (pos 2016000)) k 52596000 }
-    ensures bound { unsigned_abs result ≤ 2 ^ 110 }
+    ensures bound { unsigned_abs result ≤ 2 ^ 105 }
 {
     quadratic(275_702_688_000, -693_648_000, -2_016_000, k)
 }
@@ -71,18 +72,22 @@ fn mean_obliquity_at(k: i64) -> i128
 #[tactic(auto, unfolding(crate::specs::Meeus::grid_mean_longitude))]
 pub(crate) fn mean_longitude(m: Minutes) -> Angle
     ensures value { range_of result ≡ grid_mean_longitude (minutes_of m) }
-    ensures low { unsigned_abs result.lo ≤ 2 ^ 60 }
-    ensures high { unsigned_abs result.hi ≤ 2 ^ 60 }
+    ensures low { unsigned_abs result.lo ≤ 2 ^ 54 }
+    ensures high { unsigned_abs result.hi ≤ 2 ^ 54 }
     ensures narrow { (result.hi -ℤ result.lo) ≤ℤ pos 72000000000 }
 {
-    whole_units(mean_longitude_at(m.first), mean_longitude_at(m.last), SQUARE)
+    whole_units(
+        mean_longitude_at(m.first),
+        mean_longitude_at(m.last),
+        SQUARE,
+    )
 }
 
 /// M rises with the minutes.
 pub(crate) fn mean_anomaly(m: Minutes) -> Angle
     ensures value { range_of result ≡ grid_mean_anomaly (minutes_of m) }
-    ensures low { unsigned_abs result.lo ≤ 2 ^ 60 }
-    ensures high { unsigned_abs result.hi ≤ 2 ^ 60 }
+    ensures low { unsigned_abs result.lo ≤ 2 ^ 54 }
+    ensures high { unsigned_abs result.hi ≤ 2 ^ 54 }
     ensures narrow { (result.hi -ℤ result.lo) ≤ℤ pos 72000000000 }
 {
     whole_units(mean_anomaly_at(m.first), mean_anomaly_at(m.last), SQUARE)
@@ -102,7 +107,11 @@ pub(crate) fn first_coefficient(m: Minutes) -> Angle
     ensures not_negative { pos 0 ≤ℤ result.lo }
     ensures bound { result.hi ≤ℤ pos (2 ^ 39) }
 {
-    whole_units(first_coefficient_at(m.last), first_coefficient_at(m.first), SQUARE)
+    whole_units(
+        first_coefficient_at(m.last),
+        first_coefficient_at(m.first),
+        SQUARE,
+    )
 }
 
 /// c2 falls with the minutes.
@@ -111,7 +120,11 @@ pub(crate) fn second_coefficient(m: Minutes) -> Angle
     ensures not_negative { pos 0 ≤ℤ result.lo }
     ensures bound { result.hi ≤ℤ pos (2 ^ 39) }
 {
-    whole_units(second_coefficient_at(m.last), second_coefficient_at(m.first), CENTURY as u128)
+    whole_units(
+        second_coefficient_at(m.last),
+        second_coefficient_at(m.first),
+        CENTURY as u128,
+    )
 }
 
 /// e0 falls with the minutes.

@@ -61,7 +61,10 @@ pub(crate) fn cubic(a: i64, b: i64, c: i64, d: i64, k: i64) -> i128
     ensures value { result ≡ cubic_top a b c d k 52596000 }
     ensures bound { unsigned_abs result ≤ 2 ^ 124 }
 {
-    sum(product(a, CENTURY * CENTURY * CENTURY), times(k, quadratic(b, c, d, k)))
+    sum(
+        product(a, CENTURY * CENTURY * CENTURY),
+        times(k, quadratic(b, c, d, k)),
+    )
 }
 
 // `top` over `bottom`, rounded down.

@@ -1,7 +1,7 @@
-// Differences of ranges of angles.
-ghost use Rattle.std.specs.Prelude.{◌≡◌, ◌^◌, ◌≤◌, ◌-ℤ◌, unsigned_abs};
+// A fixed angle, and differences of ranges of angles.
+ghost use Rattle.std.specs.Prelude.{◌≡◌, pos, ◌^◌, ◌≤◌, ◌-ℤ◌, unsigned_abs};
 ghost use Rattle.trig_series.specs.Angle.{range_of};
-ghost use Rattle.solar_terms.specs.Ranges.{subtracted};
+ghost use Rattle.solar_terms.specs.Ranges.{whole, subtracted};
 
 use trig_series::Angle;
 
@@ -17,4 +17,14 @@ pub(crate) fn minus(a: Angle, b: Angle) -> Angle
     ensures high { result.hi ≡ a.hi -ℤ b.lo }
 {
     Angle::new(a.lo - b.hi, a.hi - b.lo)
+}
+
+/// The one angle of so many units.
+#[tactic(auto, unfolding(solar_terms::specs::Ranges::whole))]
+pub(crate) fn fixed(units: u32) -> Angle
+    ensures value { range_of result ≡ whole units }
+    ensures low { result.lo ≡ pos units }
+    ensures high { result.hi ≡ pos units }
+{
+    Angle::new(i128::from(units), i128::from(units))
 }
