@@ -1,8 +1,7 @@
 -- How great and how wide Meeus's sun is at one minute.
-use Rattle.std.proofs.Common.{◌≡◌, ℕ, zero, suc, ◌+◌, ◌-◌, ◌*◌, ◌/◌, ◌^◌, ◌≤◌, ℤ, pos, neg_ℤ, ◌+ℤ◌, ◌*ℤ◌, ◌≤ℤ◌, unsigned_abs, lit≤, arith, ap, ◌∙◌, refl, subst}
-use Rattle.std.specs.Int.{int_min, int_max}
+use Rattle.std.proofs.Common.{◌≡◌, ℕ, zero, suc, ◌+◌, ◌-◌, ◌*◌, ◌/◌, ◌^◌, ◌≤◌, ℤ, pos, neg_ℤ, ◌+ℤ◌, ◌*ℤ◌, ◌≤ℤ◌, unsigned_abs, lit≤, arith, refl, subst}
 use Rattle.std.proofs.lemmas.Int.{ints, clamps}
-use Rattle.fixed_interval.specs.Bound.{Bound, IsBounded, IsBoundedRange, scale_bound}
+use Rattle.fixed_interval.specs.Bound.{IsBounded, IsBoundedRange, scale_bound}
 use Rattle.fixed_interval.specs.Fraction.{over, negate, plus, times, least, greatest, floor_at, ceil_at}
 use Rattle.fixed_interval.specs.Enclosure.{LiesIn, point, negated, sum, product, divide_by, times_ratio, magnitude}
 use Rattle.fixed_interval.specs.Grid.{Ends, Range, UNIT, enclosure_of, enclosure_of_range, rounded_out, grid_negated, grid_sum, grid_product, grid_divide_by, grid_times_ratio, grid_scale_units}

@@ -1,9 +1,9 @@
 -- A polynomial whose linear coefficient outweighs the others rises, or falls, over the centuries about the epoch.
-use Rattle.std.proofs.Common.{◌≡◌, ℕ, ◌+◌, ◌*◌, ◌≤◌, ℤ, pos, neg_ℤ, ◌+ℤ◌, ◌-ℤ◌, ◌*ℤ◌, ◌≤ℤ◌, unsigned_abs, arith, ap, ◌∙◌, le_trans, mul-le-mul, mul-le-mul_right}
+use Rattle.std.proofs.Common.{◌≡◌, ℕ, ◌+◌, ◌*◌, ◌≤◌, ℤ, pos, neg_ℤ, ◌+ℤ◌, ◌*ℤ◌, ◌≤ℤ◌, unsigned_abs, arith, ap, mul-le-mul_right}
 use Rattle.std.proofs.lemmas.Int.{ints}
 use borrow.Author.Differences.{up, down}
 use Rattle.fixed_interval.specs.Fraction.{Fraction, ◌≤ᶠ◌, over, plus, times}
-use Rattle.fixed_interval.proofs.FractionLaws.{≤ᶠ_refl, plus_mono, times_anti, times_mono}
+use Rattle.fixed_interval.proofs.FractionLaws.{≤ᶠ_refl, plus_mono, times_anti}
 use Rattle.fixed_interval.proofs.Sizes.{abs_sum, abs_product, abs-scaled}
 use Rattle.fixed_interval.proofs.Whole.{one_part, plus-times, flat}
 use Rattle.meeus_terms.specs.Polynomials.{linear, quadratic, cubic, linear_top, quadratic_top, cubic_top}

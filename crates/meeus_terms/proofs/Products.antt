@@ -2,7 +2,7 @@
 use Rattle.std.proofs.Common.{◌≡◌, ℕ, ℤ, pos, ◌≤ℤ◌, unsigned_abs, arith, subst, sym}
 use Rattle.std.specs.Int.{int_min, int_max}
 use Rattle.std.proofs.lemmas.Int.{ints, clamps}
-use Rattle.fixed_interval.specs.Fraction.{Fraction, ◌≤ᶠ◌, over, times, least, greatest}
+use Rattle.fixed_interval.specs.Fraction.{◌≤ᶠ◌, over, times}
 use Rattle.fixed_interval.specs.Enclosure.{Enclosure, IsOrdered, LiesIn, product, scale_units}
 use Rattle.fixed_interval.specs.Grid.{Ends, Range, UNIT, enclosure_of, enclosure_of_range, grid_scale_units}
 use Rattle.fixed_interval.proofs.FractionLaws.{≤ᶠ_trans, least_above, greatest_below, over_mono, times_mono}

@@ -1,10 +1,9 @@
 -- Which of Meeus's lines rise and fall, and what each is over all minutes.
-use Rattle.std.proofs.Common.{◌≡◌, pos, neg_ℤ, ◌≤ℤ◌, refl, arith}
+use Rattle.std.proofs.Common.{◌≡◌, pos, refl, arith}
 use Rattle.std.proofs.lemmas.Int.{ints}
 use Rattle.fixed_interval.specs.Fraction.{over, plus, negate, times, least, greatest, floor_at, ceil_at}
-use Rattle.fixed_interval.specs.Enclosure.{Enclosure}
 use Rattle.fixed_interval.specs.Grid.{Range, range_around}
-use Rattle.meeus_terms.specs.Polynomials.{held, centuries, linear, quadratic, cubic, rising, falling}
+use Rattle.meeus_terms.specs.Polynomials.{held, centuries, linear, quadratic, cubic, falling}
 use Rattle.meeus_terms.specs.Meeus.{mean_longitude, mean_anomaly, node, first_coefficient, second_coefficient, mean_obliquity}
 use Rattle.meeus_terms.proofs.LineLaws.{IsLine, limits, rising_line, falling_line}
 use Rattle.meeus_terms.proofs.Monotony.{linear_falls, quadratic_rises, quadratic_falls, cubic_falls}

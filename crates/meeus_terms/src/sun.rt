@@ -5,6 +5,7 @@ ghost use Rattle.fixed_interval.specs.Grid.{UNIT, reach};
 ghost use Rattle.fixed_interval.specs.Interval.{ends};
 ghost use Rattle.trig_series.specs.Angle.{range_of};
 ghost use Rattle.trig_series.specs.Sine.{grid_sine, grid_cosine};
+ghost use Rattle.solar_terms.specs.Ranges.{added};
 ghost use Rattle.solar_terms.specs.Sun.{minutes_of, terms_of};
 ghost use Rattle.meeus_terms.specs.Meeus.{grid_mean_longitude, grid_node, grid_centre, grid_longitude, grid_obliquity, grid_meeus};
 
@@ -33,6 +34,20 @@ fn centre(m: Minutes) -> Angle
     plus(plus(first, second), third)
 }
 
+// L0 + C.
+fn true_longitude(m: Minutes, mean: Angle) -> Angle
+    requires mean { range_of mean ≡ grid_mean_longitude (minutes_of m) }
+    requires mean_low { unsigned_abs mean.lo ≤ 2 ^ 54 }
+    requires mean_high { unsigned_abs mean.hi ≤ 2 ^ 54 }
+    requires mean_narrow { (mean.hi -ℤ mean.lo) ≤ℤ pos 72000000000 }
+    ensures value { range_of result ≡ added (grid_mean_longitude (minutes_of m)) (grid_centre (minutes_of m)) }
+    ensures low { unsigned_abs result.lo ≤ 2 ^ 55 }
+    ensures high { unsigned_abs result.hi ≤ 2 ^ 55 }
+    ensures narrow { (result.hi -ℤ result.lo) ≤ℤ pos 30000000000000 }
+{
+    plus(mean, centre(m))
+}
+
 // L = L0 + C - 0.00569 - 0.00478 sin N, in degrees.
 #[tactic(auto, unfolding(crate::specs::Meeus::grid_longitude))]
 fn longitude(m: Minutes, mean: Angle, sin_node: Interval) -> Angle
@@ -45,7 +60,7 @@ fn longitude(m: Minutes, mean: Angle, sin_node: Interval) -> Angle
     ensures value { range_of result ≡ grid_longitude (minutes_of m) }
     ensures narrow { (result.hi -ℤ result.lo) ≤ℤ pos 51840000000000 }
 {
-    let seen = minus(plus(mean, centre(m)), fixed(819_360_000));
+    let seen = minus(true_longitude(m, mean), fixed(819_360_000));
     minus(seen, scaled(sin_node, 688_320_000))
 }
 

@@ -1,9 +1,8 @@
-use Rattle.std.proofs.Common.{◌≡◌, ℤ, unsigned_abs, ap, ◌∙◌, arith}
+use Rattle.std.proofs.Common.{ℤ, unsigned_abs, ap, ◌∙◌, arith}
 use Rattle.std.proofs.lemmas.Int.{ints, clamps}
 use Rattle.fixed_interval.specs.Grid.{grid_scale_units}
 use Rattle.fixed_interval.specs.Interval.{ends}
 use Rattle.fixed_interval.proofs.Bits.{cast}
-use Rattle.trig_series.specs.Angle.{range_of}
 use Rattle.meeus_terms.specs.Scaled.{hull_of, grid_scale_between}
 use Rattle.meeus_terms.proofs.scaled.scaled_between.Goals as goal
 
