@@ -35,32 +35,24 @@ fn centre(m: Minutes) -> Angle
 }
 
 // L0 + C.
-fn true_longitude(m: Minutes, mean: Angle) -> Angle
-    requires mean { range_of mean ≡ grid_mean_longitude (minutes_of m) }
-    requires mean_low { unsigned_abs mean.lo ≤ 2 ^ 54 }
-    requires mean_high { unsigned_abs mean.hi ≤ 2 ^ 54 }
-    requires mean_narrow { (mean.hi -ℤ mean.lo) ≤ℤ pos 72000000000 }
+fn true_longitude(m: Minutes) -> Angle
     ensures value { range_of result ≡ added (grid_mean_longitude (minutes_of m)) (grid_centre (minutes_of m)) }
     ensures low { unsigned_abs result.lo ≤ 2 ^ 55 }
     ensures high { unsigned_abs result.hi ≤ 2 ^ 55 }
     ensures narrow { (result.hi -ℤ result.lo) ≤ℤ pos 30000000000000 }
 {
-    plus(mean, centre(m))
+    plus(mean_longitude(m), centre(m))
 }
 
 // L = L0 + C - 0.00569 - 0.00478 sin N, in degrees.
 #[tactic(auto, unfolding(crate::specs::Meeus::grid_longitude))]
-fn longitude(m: Minutes, mean: Angle, sin_node: Interval) -> Angle
-    requires mean { range_of mean ≡ grid_mean_longitude (minutes_of m) }
-    requires mean_low { unsigned_abs mean.lo ≤ 2 ^ 54 }
-    requires mean_high { unsigned_abs mean.hi ≤ 2 ^ 54 }
-    requires mean_narrow { (mean.hi -ℤ mean.lo) ≤ℤ pos 72000000000 }
+fn longitude(m: Minutes, sin_node: Interval) -> Angle
     requires sine { ends sin_node ≡ grid_sine (grid_node (minutes_of m)) }
     requires sine_small { 3 * reach (ends sin_node) ≤ 4 * UNIT }
     ensures value { range_of result ≡ grid_longitude (minutes_of m) }
     ensures narrow { (result.hi -ℤ result.lo) ≤ℤ pos 51840000000000 }
 {
-    let seen = minus(true_longitude(m, mean), fixed(819_360_000));
+    let seen = minus(true_longitude(m), fixed(819_360_000));
     minus(seen, scaled(sin_node, 688_320_000))
 }
 
@@ -80,10 +72,9 @@ fn obliquity(m: Minutes, cos_node: Interval) -> Angle
 pub fn meeus_sun(m: Minutes) -> Sun
     ensures { terms_of result ≡ grid_meeus (minutes_of m) }
 {
-    let mean = mean_longitude(m);
     let node = sine_and_cosine(node(m));
-    let l = sine_and_cosine(longitude(m, mean, node.sine));
+    let l = sine_and_cosine(longitude(m, node.sine));
     let e = sine_and_cosine(obliquity(m, node.cosine));
-    let q = minus(mean, fixed(823_435_200));
+    let q = minus(mean_longitude(m), fixed(823_435_200));
     Sun::new(l.sine, l.cosine, e.sine, e.cosine, q)
 }
