@@ -1,8 +1,8 @@
 // The suns against vectors that an independent program computed in whole numbers.
 use fixed_interval::Interval;
 use meeus_terms::meeus_sun;
-use solar_terms::{Minutes, Sun};
 use solar_terms::observatory::sun;
+use solar_terms::{Minutes, Sun};
 use std::process::Abort;
 
 type Ends = (i128, i128);
