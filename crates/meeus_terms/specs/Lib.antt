@@ -1,0 +1,4 @@
+pub mod Polynomials
+pub mod Scaled
+pub mod Meeus
+pub mod MeeusLaws
