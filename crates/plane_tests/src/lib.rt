@@ -7,4 +7,8 @@ mod cells;
 #[cfg(test)]
 mod districts;
 #[cfg(test)]
+mod joins;
+#[cfg(test)]
+mod nights;
+#[cfg(test)]
 mod skies;

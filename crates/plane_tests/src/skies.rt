@@ -4,7 +4,9 @@ ghost use Rattle.cell_judge.specs.Limits.{AreInLimits};
 
 use cell_judge::Sky;
 use cell_split::{Cell, Judge, Task, Verdict, root_at, within};
+use district_set::SetSky;
 use method_table::{Asr, Method, Problem, problems};
+use night_portion::{Few, night_problems, repeated};
 use region::{District, RegionFault};
 use std::alloc::Global;
 use std::process::Abort;
@@ -55,10 +57,10 @@ fn problems_of(day: i32, noon: i32) -> [Problem; 7]
     problems(Method::Mwl, Asr::Standard, day, 0, noon, 0, 90)
 }
 
-fn judged(rt: &impl Abort, sky: &Sky, problem: u32, cell: Cell) -> Verdict {
-    assert!(rt; problem < sky.problems());
-    assert!(rt; within(&cell, &sky.root()));
-    sky.judge(Task { problem, cell })
+fn judged<J: Judge>(rt: &impl Abort, judge: &J, problem: u32, cell: Cell) -> Verdict {
+    assert!(rt; problem < judge.problems());
+    assert!(rt; within(&cell, &judge.root()));
+    judge.judge(Task { problem, cell })
 }
 
 // What the verdict is, with its point.
@@ -104,13 +106,13 @@ fn one_place_is_judged_as_its_table_says(rt: HostRuntime) -> Result<(), Fail> {
 }
 
 // At this rank the place's own cell is proved, and at the one before it is refuted.
-fn holds_from(rt: &impl Abort, sky: &Sky, problem: u32, rank: u32) {
+fn holds_from<J: Judge>(rt: &impl Abort, judge: &J, problem: u32, rank: u32) {
     assert!(rt; 1 <= rank);
     let place = Cell {
         size: 4,
         first: rank,
         last: rank,
-        ..sky.root()
+        ..judge.root()
     };
     let before = Cell {
         first: rank - 1,
@@ -118,12 +120,12 @@ fn holds_from(rt: &impl Abort, sky: &Sky, problem: u32, rank: u32) {
         ..place
     };
     assert_eq!(rt;
-        judged(rt, sky, problem, place),
+        judged(rt, judge, problem, place),
         Verdict::Proved,
         "{problem}"
     );
     assert_eq!(rt;
-        told(judged(rt, sky, problem, before)),
+        told(judged(rt, judge, problem, before)),
         ("refuted", (12_800_000, 0, 1)),
         "{problem}"
     );
@@ -357,6 +359,55 @@ fn a_sky_turns_to_another_day(rt: HostRuntime) -> Result<(), Fail> {
     assert_eq!(rt; told(judged(&rt, &sky, 2, noon)).0, "refuted");
     assert_eq!(rt; sky.problem(2).base, 180 * 1440 - 720);
     assert_eq!(rt; sky.root(), root);
+    Ok(())
+}
+
+#[test]
+fn sunrise_and_sunset_are_judged_as_the_first_of_a_sky(rt: HostRuntime) -> Result<(), Fail> {
+    let mut sky = Sky::new(
+        rt.alloc(),
+        district(rt.alloc(), POINT)?,
+        problems_of(DAY, 720),
+    )?;
+    sky.turn_to(repeated(&night_problems(DAY, 0, 720, 0)));
+    assert!(rt; 2 <= sky.problems());
+    let few = Few::new(&sky, 2);
+    assert_eq!(rt; few.problems(), 2);
+    assert_eq!(rt; few.root(), sky.root());
+    // The ranks of 06:00 and 18:07.
+    holds_from(&rt, &few, 0, 360);
+    holds_from(&rt, &few, 1, 367);
+    Ok(())
+}
+
+// The verdict of two judges as one.
+fn judged_of_two<J: Judge>(rt: &impl Abort, judges: &[J; 2], problem: u32, cell: Cell) -> Verdict {
+    assert!(rt; judges[0].problems() == 7 && judges[1].problems() == 7);
+    assert!(rt; judges[0].root() == judges[1].root());
+    judged(rt, &SetSky::new(judges), problem, cell)
+}
+
+#[test]
+fn each_problem_of_a_set_is_judged_by_its_own_sky(rt: HostRuntime) -> Result<(), Fail> {
+    let first = Sky::new(
+        rt.alloc(),
+        district(rt.alloc(), POINT)?,
+        problems_of(DAY, 720),
+    )?;
+    let second = Sky::new(
+        rt.alloc(),
+        district(rt.alloc(), POINT)?,
+        problems_of(DAY + 180, 720),
+    )?;
+    let skies = [first, second];
+    let noon = Cell {
+        size: 4,
+        first: 363,
+        last: 363,
+        ..root_at(100_000, 0)
+    };
+    assert_eq!(rt; told(judged_of_two(&rt, &skies, 2, noon)).0, "proved");
+    assert_eq!(rt; told(judged_of_two(&rt, &skies, 9, noon)).0, "refuted");
     Ok(())
 }
 

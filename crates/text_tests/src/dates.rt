@@ -7,8 +7,8 @@ use std::alloc::Global;
 use std::process::Abort;
 use std::test::Fail;
 use year_table::{
-    SunChoice, Zone, date_text, day_line, day_offset, end_line, entry_text, open_line, read_rule,
-    sun_word, table_head,
+    SunChoice, Zone, date_text, day_line, day_offset, end_line, entry_text, night_line, open_line,
+    read_rule, sun_word, table_head,
 };
 
 // rule, day since 1970-01-01, offset in minutes
@@ -303,6 +303,20 @@ fn an_open_entry_has_a_line(rt: HostRuntime) -> Result<(), Fail> {
     assert_eq!(rt;
         line.as_slice(),
         "open fajr safe  --:-- from  00:00 cell -16 -32 rank 720\n".as_bytes()
+    );
+    Ok(())
+}
+
+#[test]
+fn a_night_has_a_line(rt: HostRuntime) -> Result<(), Fail> {
+    let alloc = rt.alloc();
+    assert_eq!(rt;
+        night_line(alloc, Some(80), Some(1520))?.as_slice(),
+        "night fajr  01:20 isha +01:20\n".as_bytes()
+    );
+    assert_eq!(rt;
+        night_line(alloc, Some(-720), None)?.as_slice(),
+        "night fajr -12:00 isha  --:--\n".as_bytes()
     );
     Ok(())
 }

@@ -1,5 +1,5 @@
 -- The texts of minutes and entries: six characters each.
-use Rattle.std.specs.Prelude.{◌≡◌, ◌≤◌, ◌+◌, ℕ, ◌/◌, ◌%◌, ◌++◌, ◌==◌, if◌then◌else◌, ℤ, pos, ◌+ℤ◌, int_lt, unsigned_abs, List, codes}
+use Rattle.std.specs.Prelude.{◌≡◌, ◌≤◌, ◌+◌, ℕ, ◌/◌, ◌%◌, ◌++◌, ◌==◌, if◌then◌else◌, ℤ, pos, ◌+ℤ◌, int_lt, unsigned_abs, List, Option, Some, None, codes}
 use Rattle.std.specs.Int.{int_rem_euclid}
 use Rattle.cell_split.specs.declared.verdict.Entry.{Entry}
 use Rattle.cell_split.specs.declared.verdict.Entry.TheVariants.{Minute, Never, Open, Whole}
@@ -17,6 +17,11 @@ minute_of_clock minute = unsigned_abs (int_rem_euclid minute (pos 1440))
 abbrev pub minute_text : ℤ → List ℕ
 minute_text minute =
     mark_of minute ++ two_digits (minute_of_clock minute / 60) ++ codes ":" ++ two_digits (minute_of_clock minute % 60)
+
+-- the text of a minute, if there is one
+abbrev pub given_text : Option ℤ → List ℕ
+given_text (Some minute) = minute_text minute
+given_text None = codes " --:--"
 
 -- the minute of a rank, with the shift
 abbrev pub printed_minute : Row → ℕ → ℤ

@@ -1,5 +1,5 @@
 -- The lines of a table. Each ends with LF.
-use Rattle.std.specs.Prelude.{ℕ, ◌++◌, ◌==◌, if◌then◌else◌, ℤ, List, [], codes, decimal, flat_map, zip}
+use Rattle.std.specs.Prelude.{ℕ, ◌++◌, ◌==◌, if◌then◌else◌, ℤ, List, [], Option, codes, decimal, flat_map, zip}
 use Rattle.std.specs.Fmt.{signed_decimal}
 use Rattle.cell_split.specs.declared.cell.Cell.{Cell}
 use Rattle.cell_split.specs.declared.verdict.Entry.{Entry}
@@ -14,7 +14,7 @@ use Rattle.year_table.specs.declared.head.SunChoice.TheVariants.{Meeus, Usno}
 use Rattle.year_table.specs.declared.zone.Zone.{Zone}
 use Rattle.year_table.specs.declared.zone.Zone.TheVariants.{Fixed, Rule}
 use Rattle.year_table.specs.Dates.{date_text}
-use Rattle.year_table.specs.Entries.{entry_text, rank_text}
+use Rattle.year_table.specs.Entries.{entry_text, given_text, rank_text}
 
 -- a space and an entry
 abbrev pub cell_text : Problem × Entry → List ℕ
@@ -36,6 +36,10 @@ open_text column safe from place =
 abbrev pub open_line : Row → Entry → List ℕ
 open_line p (Open safe from cell) = open_text (column_word p.column) (rank_text p safe) (rank_text p from) (place_text cell)
 open_line p _ = []
+
+-- Fajr and Isha of a night
+abbrev pub night_line : Option ℤ → Option ℤ → List ℕ
+night_line fajr isha = codes "night fajr " ++ given_text fajr ++ codes " isha " ++ given_text isha ++ codes "\n"
 
 abbrev pub end_line : ℕ → ℕ → List ℕ
 end_line days undecided = codes "end days " ++ decimal days ++ codes " open " ++ decimal undecided ++ codes "\n"

@@ -4,10 +4,10 @@ ghost use Rattle.std.specs.String.{string_bytes};
 ghost use Rattle.method_table.specs.Row.{row_of};
 ghost use Rattle.year_table.specs.Dates.{date_text};
 ghost use Rattle.year_table.specs.Entries.{IsInFrame, IsOpenAtOneRank, entry_text, printed_minute, rank_text};
-ghost use Rattle.year_table.specs.Lines.{cell_text, day_line, open_line, open_text, place_text};
+ghost use Rattle.year_table.specs.Lines.{cell_text, day_line, night_line, open_line, open_text, place_text};
 
 use crate::date::parts_of;
-use crate::show::ClockMinute;
+use crate::show::{ClockMinute, GivenMinute};
 use cell_split::{Cell, Entry};
 use method_table::{Problem, column_word, minute_of};
 use no_memory::NoMemory;
@@ -153,4 +153,13 @@ fn place_string(alloc: Global, cell: &Cell) -> Result<String, NoMemory>
     ensures { IfOk result (λ t. string_bytes t ≡ place_text cell.now) }
 {
     Ok(format!(in alloc; "{} {} rank {}", cell.x, cell.y, cell.first)?)
+}
+
+/// The line of a night: its Fajr and its Isha as local minutes, and ` --:--` where there is none.
+pub fn night_line(alloc: Global, fajr: Option<i32>, isha: Option<i32>) -> Result<Vec<u8>, NoMemory>
+    ensures { IfOk result (λ t. t.items ≡ night_line fajr isha) }
+{
+    let fajr = GivenMinute(fajr);
+    let isha = GivenMinute(isha);
+    Ok(format!(in alloc; "night fajr {fajr} isha {isha}\n")?.into_bytes())
 }

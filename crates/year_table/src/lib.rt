@@ -9,7 +9,7 @@ mod offset;
 mod show;
 mod zone;
 
-pub use entry::{date_text, day_line, entry_text, open_line};
+pub use entry::{date_text, day_line, entry_text, night_line, open_line};
 pub use head::{SunChoice, end_line, sun_word, table_head};
 pub use offset::day_offset;
 pub use zone::{Rule, RuleFault, Zone, read_rule};

@@ -1,7 +1,7 @@
 // The texts of days and minutes.
 ghost use Rattle.std.specs.Prelude.{◌≡◌, Some};
 ghost use Rattle.year_table.specs.Dates.{parts_text, two_digits};
-ghost use Rattle.year_table.specs.Entries.{mark_of, minute_of_clock, minute_text};
+ghost use Rattle.year_table.specs.Entries.{given_text, mark_of, minute_of_clock, minute_text};
 
 use crate::date::DateParts;
 use std::fmt::{Display, Formatter, Result, Write};
@@ -43,6 +43,21 @@ impl Display for ClockMinute {
         let hours = TwoDigits(clock / 60);
         let minutes = TwoDigits(clock % 60);
         write!(f, "{mark}{hours}:{minutes}")
+    }
+}
+
+// such a minute, if there is one
+#[derive(Clone, Copy)]
+pub(crate) struct GivenMinute(pub Option<i32>);
+
+impl Display for GivenMinute {
+    ghost output = { λ m. Some (given_text m.0) };
+
+    fn fmt<W: Write>(&self, f: &mut Formatter<W>) -> Result {
+        match self.0 {
+            Some(minute) => write!(f, "{}", ClockMinute(minute)),
+            None => write!(f, " --:--"),
+        }
     }
 }
 

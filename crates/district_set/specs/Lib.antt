@@ -1,0 +1,4 @@
+pub mod Joins
+pub mod Sets
+pub mod Lawful
+pub mod JoinLaws

@@ -1,0 +1,5 @@
+pub mod BoundLemmas
+pub mod SunLemmas
+pub mod MinuteLemmas
+pub mod SafeLemmas
+pub mod DayLemmas

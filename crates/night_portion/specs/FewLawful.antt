@@ -1,0 +1,15 @@
+-- A lawful judge's first problems are those of a lawful judge. An `impl` takes the proof of a law from specs alone, so it stands here.
+use Rattle.std.specs.Prelude.{◌≤◌, ℕ, refl}
+use Rattle.std.proofs.Common.{arith}
+use Rattle.cell_split.specs.Judges.{Content, IsLawful}
+use Rattle.cell_split.proofs.Renumbering.{judges_of_lawful_ones}
+use Rattle.night_portion.specs.Few.{first_problems}
+
+pub first_problems_are_lawful : (count : ℕ) (c : Content) → count ≤ c.problems → IsLawful c → IsLawful (first_problems count c)
+first_problems_are_lawful count c few law = judges_of_lawful_ones (first_problems count c) law.root (λ j known. record {
+  other = c;
+  lawful = law;
+  k = j;
+  known = omega (arith, known, few);
+  same = record { same_root = refl; same_verdicts = λ cell is. refl };
+})

@@ -1,0 +1,7 @@
+pub mod Sun
+pub mod Bounds
+pub mod Minutes
+pub mod Few
+pub mod FewLawful
+pub mod SafeNights
+pub mod Laws

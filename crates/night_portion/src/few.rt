@@ -1,0 +1,49 @@
+// The judge of another judge's first problems.
+ghost use Rattle.std.specs.Prelude.{◌≡◌, ◌≤◌};
+
+use cell_split::{Cell, Judge, Judged, Task, Verdict};
+
+/// A judge's first problems: it answers as that judge does.
+#[derive(Drop)]
+pub struct Few<'a, J: Judge> {
+    judge: &'a J,
+    count: u32,
+    ghost few: { count ≤ (J.content judge.now).problems },
+}
+
+impl<'a, J: Judge> Few<'a, J> {
+    /// The first `count` problems of a judge, at least one.
+    pub fn new(judge: &'a J, count: u32) -> Few<'a, J>
+        requires some { 1 ≤ count }
+        requires few { count ≤ (J.content judge.now).problems }
+        ensures judge { result.judge.now ≡ judge.now }
+        ensures count { result.count ≡ count }
+    {
+        Few { judge, count }
+    }
+}
+
+impl<J: Judge> Judge for Few<'_, J> {
+    ghost use Rattle.night_portion.specs.Few.{first_problems};
+    ghost use Rattle.night_portion.specs.FewLawful.{first_problems_are_lawful};
+
+    ghost content = { λ f. first_problems f.count (J.content f.judge.now) };
+
+    ghost lawful = { λ f. first_problems_are_lawful f.count (J.content f.judge.now) f.few (J.lawful f.judge.now) };
+
+    fn problems(&self) -> u32 {
+        self.count
+    }
+
+    fn root(&self) -> Cell {
+        self.judge.root()
+    }
+
+    fn judge(&self, t: Task) -> Verdict {
+        self.judge.judge(t)
+    }
+
+    fn judge_quarters(&self, t: Task) -> [Judged; 4] {
+        self.judge.judge_quarters(t)
+    }
+}
