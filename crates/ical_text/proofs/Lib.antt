@@ -1,0 +1,5 @@
+pub mod EventLemmas
+pub mod LineLemmas
+pub mod MinuteLemmas
+pub mod PropertyLemmas
+pub mod ReadingLemmas
