@@ -1,4 +1,5 @@
 pub mod EventLemmas
+pub mod LawLemmas
 pub mod LineLemmas
 pub mod MinuteLemmas
 pub mod PropertyLemmas

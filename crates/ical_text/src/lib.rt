@@ -5,6 +5,7 @@
 mod event;
 mod fault;
 mod folded;
+mod laws;
 mod line;
 mod moment;
 mod own;
@@ -16,6 +17,7 @@ mod written;
 
 pub use event::{Event, Events};
 pub use fault::IcalFault;
+pub use laws::{lines_decide, reading_is_exact, readings_agree};
 pub use line::Line;
 pub use reader::read_ical;
 pub use write::{calendar_end, calendar_head, event_text};

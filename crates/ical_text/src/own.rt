@@ -44,7 +44,6 @@ impl Times {
         }
     }
 
-
     fn add(&mut self, alloc: Global, value: &[u8]) -> Result<(), NoMemory>
         ensures { OnOk result (self.new ≡ once_more self.old value.now) }
     {
@@ -89,9 +88,11 @@ impl Own {
     pub fn event(self) -> Option<Event>
         ensures { option_to_list result ≡ events_in self }
     {
-        let (Times::Once(uid), Times::Once(start), Times::Once(summary)) =
-            (self.uid, self.start, self.summary)
-        else {
+        let (Times::Once(uid), Times::Once(start), Times::Once(summary)) = (
+            self.uid,
+            self.start,
+            self.summary,
+        ) else {
             return None;
         };
         let start = moment_of(start.bytes())?;

@@ -86,12 +86,7 @@ fn event_by(
     Ok(text)
 }
 
-fn push_line(
-    alloc: Global,
-    text: &mut Vec<u8>,
-    name: &str,
-    value: &[u8],
-) -> Result<(), NoMemory>
+fn push_line(alloc: Global, text: &mut Vec<u8>, name: &str, value: &[u8]) -> Result<(), NoMemory>
     ensures { OnOk result (text.new.items ≡ text.old.items ++ folded (name.now ++ value.now)) }
 {
     let mut line = Vec::from_slice(alloc, name.as_bytes())?;
@@ -153,12 +148,7 @@ fn uid_end(alloc: Global, column: &str, corner: &str) -> Result<String, NoMemory
     Ok(format!(in alloc; "-{column}-{corner}@timetable.invalid")?)
 }
 
-fn description_of(
-    alloc: Global,
-    method: Method,
-    asr: Asr,
-    zone: &str,
-) -> Result<Vec<u8>, NoMemory>
+fn description_of(alloc: Global, method: Method, asr: Asr, zone: &str) -> Result<Vec<u8>, NoMemory>
     ensures { IfOk result (λ t. t.items ≡ description_text method asr zone.now) }
 {
     let words = description_by(alloc, method_word(method), asr_word(asr))?;
@@ -170,7 +160,9 @@ fn description_of(
 fn description_by(alloc: Global, method: &str, asr: &str) -> Result<String, NoMemory>
     ensures { IfOk result (λ t. string_bytes t ≡ description_by method.now asr.now) }
 {
-    Ok(format!(in alloc; "Safe at every point of the district. Method {method}\\, asr {asr}\\, zone ")?)
+    Ok(format!(in alloc;
+        "Safe at every point of the district. Method {method}\\, asr {asr}\\, zone "
+    )?)
 }
 
 fn push_escaped(text: &mut Vec<u8>, zone: &str) -> Result<(), NoMemory>
