@@ -1,5 +1,5 @@
 -- The calendar of a table: an event for each printed minute.
-use Rattle.std.specs.Prelude.{ℕ, ◌==◌, ◌||◌, ◌++◌, if◌then◌else◌, ℤ, ◌+ℤ◌, List, [], ◌∷◌, codes, flat_map, zip}
+use Rattle.std.specs.Prelude.{ℕ, ◌==◌, ◌||◌, ◌++◌, if◌then◌else◌, ℤ, ◌+ℤ◌, List, [], ◌∷◌, codes, flat_map}
 use Rattle.std.specs.Fmt.{signed_decimal}
 use Rattle.cell_split.specs.declared.verdict.Entry.{Entry}
 use Rattle.cell_split.specs.declared.verdict.Entry.TheVariants.{Minute}
@@ -87,5 +87,5 @@ abbrev pub entry_events : ℤ → ℤ → ℤ → Row × Entry → List Event
 entry_events west south day (p, Minute rank) = event_of west south day p rank ∷ []
 entry_events west south day (p, _) = []
 
-abbrev pub day_events : ℤ → ℤ → ℤ → List Row → List Entry → List Event
-day_events west south day rows entries = flat_map (entry_events west south day) (zip rows entries)
+abbrev pub day_events : ℤ → ℤ → ℤ → List (Row × Entry) → List Event
+day_events west south day found = flat_map (entry_events west south day) found

@@ -7,7 +7,7 @@ use Rattle.ical_text.specs.Reading.{Place, reading_from, with_events}
 
 -- the reader keeps the innermost component last
 abbrev pub place_of : Reader → Place
-place_of r = record { names = reverse r.open.items; own = r.own }
+place_of r = record { names = reverse r.names.items; own = r.own }
 
 -- its answer if these lines follow
 abbrev pub reading_of : Reader → List (List ℕ) → Result (List Event) IcalFault

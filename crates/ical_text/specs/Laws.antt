@@ -1,10 +1,12 @@
 -- What lines are as a calendar, place by place: apart from the reader, which goes over them once. All lines are one of a calendar
 -- with its events and of one with a first fault, and the reader's answer is that.
-use Rattle.std.specs.Prelude.{◌≡◌, ◌<◌, ◌≤◌, ℕ, zero, suc, nat_lt, if◌then◌else◌, List, [], ◌∷◌, ◌++◌, length, take, slice_index_or, Option, Some, None, Result, Ok, Err}
+use Rattle.std.specs.Prelude.{◌≡◌, ◌<◌, ◌≤◌, ℕ, zero, suc, true, pos, neg_ℤ, ◌≤ℤ◌, All, nat_lt, if◌then◌else◌, List, [], ◌∷◌, ◌++◌, length, take, slice_index_or, Option, Some, None, Result, Ok, Err}
 use Rattle.ical_text.specs.declared.event.Event.{Event}
 use Rattle.ical_text.specs.declared.fault.IcalFault.{IcalFault}
+use Rattle.std.specs.List.{list_all}
+use Rattle.ical_text.specs.Calendar.{calendar_text}
 use Rattle.ical_text.specs.Lines.{joined_lines}
-use Rattle.ical_text.specs.Properties.{Property, property_of}
+use Rattle.ical_text.specs.Properties.{Property, is_inner, property_of}
 use Rattle.ical_text.specs.Reading.{Place, after, end_fault, events_of, fault_of, reading, start}
 
 -- what is open after some lines
@@ -52,6 +54,19 @@ ReadingIsExact = (lines : List (List ℕ)) → Reads lines (reading lines)
 -- which is one thing alone
 abbrev pub ReadingsAgree : Type 0
 ReadingsAgree = (lines : List (List ℕ)) (x y : Result (List Event) IcalFault) → Reads lines x → Reads lines y → x ≡ y
+
+-- the uid and the summary have no CR and no LF in them, and the moment is one of the years from 1899 to 2101
+pub record CanBeRead (e : Event) : Type 0 where
+  pub uid : list_all is_inner e.uid ≡ true
+  pub summary : list_all is_inner e.summary ≡ true
+  pub not_early : neg_ℤ (pos 53120880) ≤ℤ e.start
+  pub not_late : e.start ≤ℤ pos 53646479
+
+-- the calendar of events that can be read is read as these events, in order
+abbrev pub CalendarsAreReadAgain : Type 0
+CalendarsAreReadAgain =
+    (stamp description : List ℕ) (events : List Event) → list_all is_inner stamp ≡ true → list_all is_inner description ≡ true
+    → All CanBeRead events → reading (joined_lines (calendar_text stamp description events)) ≡ Ok events
 
 -- texts that join to the same lines have the same answer
 abbrev pub LinesDecide : Type 0

@@ -20,27 +20,27 @@ use std::mem;
 pub(crate) struct Reader {
     lines: u64,
     // the names of the open components, innermost last
-    open: Vec<Line>,
+    names: Vec<Line>,
     own: Own,
     events: Vec<Event>,
 }
 
-fn is_innermost(open: &[Line], value: &[u8]) -> bool
-    ensures { result ≡ is_innermost (reverse open.now) value.now }
+fn is_innermost(names: &[Line], value: &[u8]) -> bool
+    ensures { result ≡ is_innermost (reverse names.now) value.now }
 {
-    match open.last() {
+    match names.last() {
         None => false,
         Some(name) => is_word(name.bytes(), value),
     }
 }
 
 // a component that opens inside eight others, or ends and is not the innermost
-fn is_misplaced(name: Name, open: &[Line], value: &[u8]) -> bool
-    ensures { result ≡ is_misplaced name (reverse open.now) value.now }
+fn is_misplaced(name: Name, names: &[Line], value: &[u8]) -> bool
+    ensures { result ≡ is_misplaced name (reverse names.now) value.now }
 {
     match name {
-        Name::Begin => open.len() == 8,
-        Name::End => !is_innermost(open, value),
+        Name::Begin => names.len() == 8,
+        Name::End => !is_innermost(names, value),
         Name::Uid | Name::Start | Name::Summary | Name::Other => false,
     }
 }
@@ -55,31 +55,31 @@ fn opens_calendar(name: Name, value: &[u8]) -> bool
 }
 
 // line 1 that doesn't open the calendar, or a line behind its end
-fn is_outside(lines: u64, open: &[Line], name: Name, value: &[u8]) -> bool
-    ensures { result ≡ is_outside lines (reverse open.now) name value.now }
+fn is_outside(lines: u64, names: &[Line], name: Name, value: &[u8]) -> bool
+    ensures { result ≡ is_outside lines (reverse names.now) name value.now }
 {
     if lines == 0 {
         !opens_calendar(name, value)
     } else {
-        open.is_empty()
+        names.is_empty()
     }
 }
 
 // an event directly in the calendar is the innermost
-fn is_event(open: &[Line]) -> bool
-    ensures { result ≡ is_event (reverse open.now) }
+fn is_event(names: &[Line]) -> bool
+    ensures { result ≡ is_event (reverse names.now) }
 {
-    match open {
+    match names {
         [_, name] => is_word(b"VEVENT", name.bytes()),
         _ => false,
     }
 }
 
-fn ends_event(name: Name, open: &[Line]) -> bool
-    ensures { result ≡ ends_event name (reverse open.now) }
+fn ends_event(name: Name, names: &[Line]) -> bool
+    ensures { result ≡ ends_event name (reverse names.now) }
 {
     match name {
-        Name::End => is_event(open),
+        Name::End => is_event(names),
         Name::Begin | Name::Uid | Name::Start | Name::Summary | Name::Other => false,
     }
 }
@@ -91,7 +91,7 @@ impl Reader {
     {
         Reader {
             lines: 0,
-            open: Vec::new(alloc),
+            names: Vec::new(alloc),
             own: Own::nothing(),
             events: Vec::new(alloc),
         }
@@ -101,11 +101,11 @@ impl Reader {
         requires { self.now.lines + 1 < 2 ^ 64 }
         ensures { result ≡ fault_by self.now.lines (place_of self.now) (record { name = name; value = value.now }) }
     {
-        let open = self.open.as_slice();
+        let names = self.names.as_slice();
         let number = self.lines + 1;
-        if is_outside(self.lines, open, name, value) || is_misplaced(name, open, value) {
+        if is_outside(self.lines, names, name, value) || is_misplaced(name, names, value) {
             Some(IcalFault::Frame(number))
-        } else if ends_event(name, open) && self.own.is_bad() {
+        } else if ends_event(name, names) && self.own.is_bad() {
             Some(IcalFault::Event(number))
         } else {
             None
@@ -118,15 +118,15 @@ impl Reader {
         ensures events { OnOk result (self.new.events.items ≡ self.old.events.items ++ (if is_event (place_of self.old).names then events_in self.old.own else [])) }
         ensures lines { self.new.lines ≡ self.old.lines }
     {
-        if self.open.len() == 2 {
+        if self.names.len() == 2 {
             let own = mem::replace(&mut self.own, Own::nothing());
-            if is_event(self.open.as_slice()) {
+            if is_event(self.names.as_slice()) {
                 if let Some(event) = own.event() {
                     self.events.push(event)?;
                 }
             }
         }
-        self.open.pop();
+        self.names.pop();
         Ok(())
     }
 
@@ -136,10 +136,10 @@ impl Reader {
         ensures lines { self.new.lines ≡ self.old.lines }
     {
         match name {
-            Name::Begin => self.open.push(Line::new(alloc, value)?)?,
+            Name::Begin => self.names.push(Line::new(alloc, value)?)?,
             Name::End => self.end()?,
             Name::Uid | Name::Start | Name::Summary | Name::Other => {
-                if self.open.len() == 2 {
+                if self.names.len() == 2 {
                     self.own.add(alloc, name, value)?;
                 }
             }
@@ -170,7 +170,7 @@ impl Reader {
         requires { self.now.lines + 1 < 2 ^ 64 }
         ensures { result ≡ end_fault self.now.lines (place_of self.now) }
     {
-        if self.lines == 0 || !self.open.is_empty() {
+        if self.lines == 0 || !self.names.is_empty() {
             Some(IcalFault::Frame(self.lines + 1))
         } else {
             None

@@ -18,5 +18,5 @@ returns-in-Some-fault_by-clause-err c =
 
 pub returns-clause-ok : goal.returns-clause-ok
 returns-clause-ok c =
-    taken c.args.self.now (record { lines = c.go_on.new.self.lines + 1; «open» = c.go_on.new.self.open; own = c.go_on.new.self.own; events = c.go_on.new.self.events }) c.args.line.now (property_seen c.in-Some.property) (sym c.property_of.ensures ∙ ap (option_map property_seen) c.in-Some.is)
+    taken c.args.self.now (record { lines = c.go_on.new.self.lines + 1; names = c.go_on.new.self.names; own = c.go_on.new.self.own; events = c.go_on.new.self.events }) c.args.line.now (property_seen c.in-Some.property) (sym c.property_of.ensures ∙ ap (option_map property_seen) c.in-Some.is)
     (sym c.fault_by.ensures ∙ c.in-None-fault_by.is) c.in_ok-go_on.ensures.place c.in_ok-go_on.ensures.events (ap (λ n. n + 1) c.go_on.ensures.lines)
