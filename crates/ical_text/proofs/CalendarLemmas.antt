@@ -1,5 +1,5 @@
 -- The lines of a calendar that is written have no fault, and its events are read.
-use Rattle.std.proofs.Common.{◌≡◌, ◌∙◌, ℕ, suc, get_or, ◌+◌, ◌<◌, ◌≤◌, Bool, true, false, cond, not, ◌&&◌, ◌||◌, ◌==◌, List, [], ◌∷◌, ◌++◌, length, Option, Some, None, Result, Ok, Err, append_assoc, append-nil, refl, ap, sym, arith}
+use Rattle.std.proofs.Common.{◌≡◌, ◌∙◌, ℕ, suc, get_or, ◌+◌, ◌<◌, ◌≤◌, true, false, cond, ◌&&◌, ◌||◌, ◌==◌, List, [], ◌∷◌, ◌++◌, length, Option, Some, None, Result, Ok, Err, append_assoc, refl, ap, sym, arith}
 use Rattle.std.proofs.lemmas.Bool.Decides.{nat_tests}
 use Rattle.std.specs.Prelude.{All, codes, flat_map}
 use Rattle.std.proofs.lemmas.Grind.{flat_map-append}
@@ -13,10 +13,10 @@ use Rattle.ical_text.specs.declared.property.Name.TheVariants.{Begin, End, Uid, 
 use Rattle.ical_text.specs.Calendar.{description_line, end_text, event_lines, event_text, head_lines, head_text, calendar_text, stamp_line, start_line, summary_line, uid_line}
 use Rattle.ical_text.specs.Laws.{CalendarsAreReadAgain, CanBeRead}
 use Rattle.ical_text.specs.Lines.{folded, folded_from, folded_lines, joined_lines}
-use Rattle.ical_text.specs.Moments.{moment_of, moment_text}
+use Rattle.ical_text.specs.Moments.{moment_text}
 use Rattle.ical_text.specs.Properties.{Property, colon_in, is_inner, property_of}
-use Rattle.ical_text.specs.Reading.{Place, after_name, end_fault, ends_event, event_by, events_by, events_in, fault_by, fault_of, is_bad, after, events_of, is_misplaced, is_outside, nothing, reading, reading_from, start, unless, with_events}
-use Rattle.ical_text.proofs.FoldLemmas.{ArePlain, IsPlain, none, one, written_again}
+use Rattle.ical_text.specs.Reading.{Place, after_name, ends_event, event_by, events_by, fault_by, fault_of, is_bad, after, events_of, is_misplaced, nothing, reading, reading_from, start, unless, with_events}
+use Rattle.ical_text.proofs.FoldLemmas.{ArePlain, none, one, written_again}
 use Rattle.ical_text.proofs.MomentLemmas.{moment_plain, moment_read}
 
 -- The properties of the lines that are written.
@@ -128,7 +128,7 @@ event_read n stamp description e more some s d can =
     ∙ ap (λ o. with_events (event_by (Once e.uid) o (Once e.summary)) last) (moment_read e.start can.not_early can.not_late)))))))
 
 -- each of a list
-abbrev EachCanBeRead : List Event → Type 0
+abbrev pub EachCanBeRead : List Event → Type 0
 EachCanBeRead [] = Unit {0}
 EachCanBeRead (e ∷ events) = CanBeRead e × EachCanBeRead events
 
@@ -224,8 +224,10 @@ all_plain stamp description events s d can =
     (one _ _ (record { inner = refl; new = refl })
     (events_plain stamp description events (codes "END:VCALENDAR" ∷ []) s d can (one _ _ (record { inner = refl; new = refl }) none))))
 
-pub read_again : CalendarsAreReadAgain
-read_again stamp description events s d all =
-    let can = each_of events all in
+pub read_again_each : (stamp description : List ℕ) (events : List Event) → list_all is_inner stamp ≡ true → list_all is_inner description ≡ true → EachCanBeRead events → reading (joined_lines (calendar_text stamp description events)) ≡ Ok events
+read_again_each stamp description events s d can =
     ap (λ text. reading (joined_lines text)) (text_of_lines stamp description events)
     ∙ (ap reading (written_again (all_lines stamp description events) (all_plain stamp description events s d can)) ∙ lines_read stamp description events s d can)
+
+pub read_again : CalendarsAreReadAgain
+read_again stamp description events s d all = read_again_each stamp description events s d (each_of events all)

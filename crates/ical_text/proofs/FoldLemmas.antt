@@ -1,7 +1,6 @@
 -- Lines that are written join to themselves.
-use Rattle.std.proofs.Common.{◌≡◌, ◌∙◌, ℕ, zero, suc, Bool, true, false, cond, ◌&&◌, ◌==◌, List, [], ◌∷◌, ◌++◌, append_assoc, append-nil, refl, ap, sym}
-use Rattle.std.proofs.lemmas.Bool.Decides.{nat_tests}
-use Rattle.std.specs.Prelude.{flat_map, not}
+use Rattle.std.proofs.Common.{◌≡◌, ◌∙◌, ℕ, zero, suc, Bool, true, false, ◌&&◌, ◌==◌, List, [], ◌∷◌, ◌++◌, append_assoc, append-nil, refl, ap, sym}
+use Rattle.std.specs.Prelude.{not}
 use Rattle.std.specs.List.{list_all}
 use Rattle.ical_text.specs.Lines.{folded, folded_from, folded_lines, is_continued, is_cut, joined, joined_from, joined_lines, pieces, with_front}
 use Rattle.ical_text.specs.Properties.{is_inner}
@@ -41,7 +40,7 @@ byte_folded b text bytes rest h f = record {
   more = f.more;
   are = pieces_plain b text (inner_not_cut b text h) ∙ ap (with_front b) f.are;
   joins = λ front.
-  ap (λ xs. joined_from xs f.more) (sym (with_one front b f.piece)) ∙ (f.joins (front ++ b ∷ []) ∙ ap (λ xs. joined_from xs (pieces rest)) (with_one front b bytes));
+      ap (λ xs. joined_from xs f.more) (sym (with_one front b f.piece)) ∙ (f.joins (front ++ b ∷ []) ∙ ap (λ xs. joined_from xs (pieces rest)) (with_one front b bytes));
 }
 
 -- CR LF and a space in front of a byte

@@ -1,14 +1,14 @@
 -- The reader's answer is what the lines are, which is one thing alone.
-use Rattle.std.proofs.Common.{◌≡◌, ◌∙◌, ℕ, zero, suc, ◌+◌, ◌<◌, ◌≤◌, Bool, true, false, cond, ltb, List, [], ◌∷◌, ◌++◌, length, get_or, take, Option, Some, None, Result, Ok, Err, append_assoc, append-nil, add-one, length-append, refl, ap, sym, subst, inl, inr, arith, below_more}
+use Rattle.std.proofs.Common.{◌≡◌, ◌∙◌, ℕ, suc, ◌+◌, ◌<◌, true, false, cond, ltb, List, [], ◌∷◌, ◌++◌, length, get_or, Option, Some, None, Result, Ok, Err, append_assoc, append-nil, length-append, refl, ap, sym, subst, inl, inr, arith, below_more}
 use Rattle.std.proofs.lemmas.Bool.{cases_lt}
 use Rattle.std.proofs.lemmas.Bool.Decides.{nat_tests}
 use Rattle.std.proofs.lemmas.List.{take_all}
 use Rattle.std.proofs.Math.Seq.{get_or-append_seam, take-append_seam}
 use Rattle.ical_text.specs.declared.event.Event.{Event}
 use Rattle.ical_text.specs.declared.fault.IcalFault.{IcalFault}
-use Rattle.ical_text.specs.Laws.{IsCalendar, IsFirstFault, LinesDecide, ReadingIsExact, ReadingsAgree, Reads, events_before, fault_at, place_before, place_from, property_in}
+use Rattle.ical_text.specs.Laws.{LinesDecide, ReadingIsExact, ReadingsAgree, Reads, events_before, fault_at, place_before, place_from, property_in}
 use Rattle.ical_text.specs.Lines.{joined_lines}
-use Rattle.ical_text.specs.Properties.{Property, property_of}
+use Rattle.ical_text.specs.Properties.{property_of}
 use Rattle.ical_text.specs.Reading.{Place, after, end_fault, events_of, fault_of, reading, reading_from, start, unless, with_events}
 
 abbrev Lines : Type 0

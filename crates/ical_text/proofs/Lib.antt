@@ -8,3 +8,4 @@ pub mod MinuteLemmas
 pub mod MomentLemmas
 pub mod PropertyLemmas
 pub mod ReadingLemmas
+pub mod TableLemmas

@@ -1,5 +1,5 @@
 -- A text is cut at its first CR LF.
-use Rattle.std.proofs.Common.{◌≡◌, ◌∙◌, ℕ, suc, ◌+◌, ◌<◌, ◌≤◌, Bool, true, false, cond, List, [], ◌∷◌, ◌++◌, length, get_or, take, drop, refl, ap, sym, add-one, drop-cons, arith}
+use Rattle.std.proofs.Common.{◌≡◌, ◌∙◌, ℕ, ◌+◌, ◌<◌, true, false, cond, List, [], ◌∷◌, ◌++◌, length, get_or, take, drop, refl, ap, sym, add-one, drop-cons, arith}
 use Rattle.std.proofs.lemmas.List.{drop_all, take_all, take_more}
 use Rattle.ical_text.specs.Lines.{is_continued, is_cut, joined, joined_from, joined_lines, pieces, with_front}
 

@@ -1,24 +1,22 @@
 -- The text of a moment is read as that moment.
-use Rattle.std.proofs.Common.{◌≡◌, ℕ, ◌+◌, ◌-◌, ◌*◌, ◌/◌, ◌%◌, ◌<◌, ◌≤◌, ◌&&◌, true, cond, ℤ, pos, neg_ℤ, ◌+ℤ◌, ◌-ℤ◌, ◌*ℤ◌, ◌≤ℤ◌, unsigned_abs, List, [], ◌∷◌, Some, None, refl, ap, sym, subst, ◌∙◌, arith, nat_le}
+use Rattle.std.proofs.Common.{◌≡◌, ℕ, ◌+◌, ◌-◌, ◌*◌, ◌/◌, ◌%◌, ◌<◌, ◌≤◌, ◌&&◌, true, cond, ℤ, pos, neg_ℤ, ◌+ℤ◌, ◌-ℤ◌, ◌≤ℤ◌, unsigned_abs, List, [], ◌∷◌, Some, None, refl, ap, sym, subst, ◌∙◌, arith, nat_le}
 use Rattle.std.proofs.lemmas.Bool.Decides.{nat_tests}
 use Rattle.std.proofs.lemmas.Fmt.{decimal_digit}
-use Rattle.std.proofs.lemmas.Int.{ints}
 use Rattle.std.specs.Char.{is_ascii_digit}
 use Rattle.std.specs.List.{list_all}
 use Rattle.std.specs.Int.{int_div_euclid, int_rem_euclid}
-use Rattle.std.specs.Prelude.{option_map, option_and_then}
+use Rattle.std.specs.Prelude.{option_and_then}
 use borrow.Author.Differences.{up, down}
 use Rattle.jiff_core.proofs.SignedLemmas.{int_div_euclid-parts, int_rem_euclid-parts, signed_arith}
 use Rattle.jiff_core.proofs.CalendarLemmas.{days_in_month_bounds}
 use Rattle.jiff_core.specs.Calendar.{days_from_civil, days_in_month}
 use Rattle.jiff_tz.specs.Year.{year_of_day}
 use Rattle.year_table.specs.Dates.{day_of_month, month_of, two_digits}
-use Rattle.ical_text.specs.declared.written.Written.{Written}
-use Rattle.ical_text.specs.Moments.{day_at, date_text, minute_at, minute_number, moment_by, moment_of, moment_text, number_of, parts_text, written_in}
+use Rattle.ical_text.specs.Moments.{day_at, minute_at, minute_number, moment_by, moment_of, moment_text, number_of, parts_text, written_in}
 use Rattle.ical_text.specs.Properties.{is_inner}
 use Rattle.ical_text.proofs.DayLemmas.{day_number_is, nonnegative, day_short, month_short, year_from, year_is, year_to}
 
-two_bytes : (n : ℕ) → n < 100 → two_digits n ≡ (48 + n / 10) ∷ (48 + n % 10) ∷ []
+pub two_bytes : (n : ℕ) → n < 100 → two_digits n ≡ (48 + n / 10) ∷ (48 + n % 10) ∷ []
 two_bytes n h =
     let tens = decimal_digit (n / 10) (omega arith) in
     let ones = decimal_digit (n % 10) (omega arith) in
@@ -88,7 +86,7 @@ module _ (k : ℤ) (low : neg_ℤ (pos 53120880) ≤ℤ k) (high : k ≤ℤ pos 
   number = number_by k quotient left (minute_at k) (int_rem_euclid-parts (k +ℤ pos 720) 1440 (omega arith)).0 minute_is
 
 -- a digit is no end of a line
-plain_digit : (n : ℕ) → n < 10 → is_inner (48 + n) ≡ true
+pub plain_digit : (n : ℕ) → n < 10 → is_inner (48 + n) ≡ true
 plain_digit n h = grind (arith, nat_tests)
 
 bytes_plain : (year month day hour minute : ℕ) → year < 10000 → month < 100 → day < 100 → hour < 100 → minute < 100 → list_all is_inner (moment_bytes year month day hour minute) ≡ true
@@ -109,7 +107,7 @@ bytes_plain year month day hour minute y m d h t =
     ) refl
 
 -- a day of these years has a date
-record IsDated (day : ℤ) : Type 0 where
+pub record IsDated (day : ℤ) : Type 0 where
   pub from : 1899 ≤ unsigned_abs (year_of_day day)
   pub to : unsigned_abs (year_of_day day) ≤ 2101
   pub first : 1 ≤ month_of day
@@ -118,7 +116,7 @@ record IsDated (day : ℤ) : Type 0 where
   pub date : day_of_month day ≤ days_in_month (pos (unsigned_abs (year_of_day day))) (month_of day)
   pub is : days_from_civil (pos (unsigned_abs (year_of_day day))) (month_of day) (day_of_month day) ≡ day
 
-dated : (day : ℤ) → neg_ℤ (pos 25932) ≤ℤ day → day ≤ℤ pos 48211 → IsDated day
+pub dated : (day : ℤ) → neg_ℤ (pos 25932) ≤ℤ day → day ≤ℤ pos 48211 → IsDated day
 dated day low high =
     let sign = year_is day low high in
     let before = month_short day low high in

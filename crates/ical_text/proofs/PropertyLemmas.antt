@@ -1,5 +1,5 @@
 -- Places in a line.
-use Rattle.std.proofs.Common.{◌≡◌, ◌∙◌, ℕ, suc, zero, ◌+◌, ◌<◌, ◌≤◌, Bool, true, false, cond, not, ◌&&◌, ◌==◌, List, [], ◌∷◌, length, get_or, drop, Option, Some, None, option_map, refl, ap, sym, add-one, drop-cons, arith}
+use Rattle.std.proofs.Common.{◌≡◌, ◌∙◌, ℕ, suc, ◌+◌, ◌<◌, Bool, true, false, cond, not, ◌&&◌, ◌==◌, List, ◌∷◌, length, get_or, drop, Option, Some, None, option_map, refl, ap, add-one, drop-cons, arith}
 use Rattle.ical_text.specs.Properties.{colon_in, is_name_byte, name_length}
 
 -- a place further on

@@ -10,7 +10,7 @@ use Rattle.method_table.specs.Row.{Row, column_word, time_of}
 use Rattle.year_table.specs.Dates as dates
 use Rattle.ical_text.specs.declared.event.Event.{Event}
 use Rattle.ical_text.specs.Lines.{folded_lines}
-use Rattle.ical_text.specs.Moments.{moment_text, stamp_text}
+use Rattle.ical_text.specs.Moments.{moment_text}
 
 -- a backslash before each comma and semicolon
 abbrev pub escaped_byte : ℕ → List ℕ

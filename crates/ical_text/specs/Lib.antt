@@ -6,3 +6,4 @@ pub mod Moments
 pub mod Properties
 pub mod Reading
 pub mod Seen
+pub mod Tables

@@ -1,6 +1,6 @@
 -- What the lines of a calendar are: its events, or the first line with a fault. After RFC 5545, section 3.6; which components
 -- are events, and the faults, are this project's own.
-use Rattle.std.specs.Prelude.{ℕ, zero, suc, ◌+◌, ◌==◌, ◌&&◌, ◌||◌, not, if◌then◌else◌, Bool, true, false, List, [], ◌∷◌, ◌++◌, codes, length, drop, reverse, ℤ, Option, Some, None, Result, Ok, Err}
+use Rattle.std.specs.Prelude.{ℕ, ◌+◌, ◌==◌, ◌&&◌, ◌||◌, not, if◌then◌else◌, Bool, true, false, List, [], ◌∷◌, ◌++◌, codes, length, drop, ℤ, Option, Some, None, Result, Ok, Err}
 use Rattle.ical_text.specs.declared.event.Event.{Event}
 use Rattle.ical_text.specs.declared.fault.IcalFault.{IcalFault}
 use Rattle.ical_text.specs.declared.fault.IcalFault.TheVariants.{NotLine, Frame, Event as BadEvent}
@@ -8,7 +8,7 @@ use Rattle.ical_text.specs.declared.own.Own.{Own}
 use Rattle.ical_text.specs.declared.own.Times.{Times}
 use Rattle.ical_text.specs.declared.own.Times.TheVariants.{Never, Once, Again}
 use Rattle.ical_text.specs.declared.property.Name.{Name}
-use Rattle.ical_text.specs.declared.property.Name.TheVariants.{Begin, End, Uid, Start, Summary, Other}
+use Rattle.ical_text.specs.declared.property.Name.TheVariants.{Begin, End, Uid, Start, Summary}
 use Rattle.ical_text.specs.Moments.{moment_of}
 use Rattle.ical_text.specs.Properties.{Property, is_word, property_of}
 

@@ -1,5 +1,6 @@
 // What is true of readings, each law the contract of a function that does nothing.
 ghost use Rattle.ical_text.specs.Laws.{CalendarsAreReadAgain, LinesDecide, ReadingIsExact, ReadingsAgree};
+ghost use Rattle.ical_text.specs.Tables.{TablesAreReadAgain};
 
 /// The reader's answer is what the lines are: a calendar with the events that its lines end, none of which has
 /// a fault; or the first fault, at the first line that has one.
@@ -16,6 +17,12 @@ pub fn readings_agree()
 /// events, in order, each with its moment, its SUMMARY and its UID.
 pub fn calendars_are_read_again()
     ensures { CalendarsAreReadAgain }
+{}
+
+/// The calendar of a table's days is read as the table's printed minutes, in order, each with its moment in
+/// Universal Time, its column's word and its UID.
+pub fn tables_are_read_again()
+    ensures { TablesAreReadAgain }
 {}
 
 /// Texts that join to the same lines are the same calendar, or have the same first fault, however they are folded.

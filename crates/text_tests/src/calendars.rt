@@ -1,8 +1,7 @@
 // Calendars, right ones and wrong ones, and events as they are written. The answers are those of the reference.
 use ical_text::{
     Events, IcalFault, calendar_end, calendar_head, calendars_are_read_again, event_text,
-    lines_decide, read_ical,
-    reading_is_exact, readings_agree,
+    lines_decide, read_ical, reading_is_exact, readings_agree, tables_are_read_again,
 };
 use method_table::{Asr, Method, problems};
 use std::alloc::{AllocError, Global};
@@ -249,5 +248,6 @@ fn events_are_written_and_read_again(rt: HostRuntime) -> Result<(), Fail> {
     readings_agree();
     lines_decide();
     calendars_are_read_again();
+    tables_are_read_again();
     Ok(())
 }

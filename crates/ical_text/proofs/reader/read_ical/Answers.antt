@@ -1,4 +1,4 @@
-use Rattle.std.proofs.Common.{◌∙◌, ◌≡◌, ap, sym, List, ℕ, []}
+use Rattle.std.proofs.Common.{◌∙◌, ◌≡◌, ap, sym, []}
 use Rattle.ical_text.specs.Held.{reading_of}
 use Rattle.ical_text.specs.Lines.{joined_lines}
 use Rattle.ical_text.specs.Reading.{reading}

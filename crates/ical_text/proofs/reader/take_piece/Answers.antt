@@ -1,4 +1,4 @@
-use Rattle.std.proofs.Common.{◌∙◌, ◌≡◌, ap, sym, ◌++◌, ◌∷◌, List, ℕ, Err, inl, inr}
+use Rattle.std.proofs.Common.{◌∙◌, ◌≡◌, ap, sym, ◌++◌, ◌∷◌, List, ℕ, inl, inr}
 use Rattle.ical_text.specs.Held.{reading_of}
 use Rattle.ical_text.specs.Lines.{joined_from}
 use Rattle.ical_text.proofs.LineLemmas.{joined_new, joined_on}

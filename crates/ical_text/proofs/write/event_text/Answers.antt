@@ -1,7 +1,7 @@
 use Rattle.std.proofs.Common.{◌≡◌, ◌∙◌, ap, FitsSigned, rules, w32, w64}
 use Rattle.std.proofs.lemmas.Int.{to_z-of_z}
-use Rattle.method_table.specs.Row.{column_word, row_of, time_of}
-use Rattle.ical_text.specs.Calendar.{description_text, event_of, uid_text}
+use Rattle.method_table.specs.Row.{row_of}
+use Rattle.ical_text.specs.Calendar.{description_text, event_of}
 use Rattle.ical_text.specs.Moments.{moment_text, stamp_text}
 use Rattle.ical_text.proofs.EventLemmas.{event_same}
 use Rattle.ical_text.proofs.write.event_text.Goals as goal

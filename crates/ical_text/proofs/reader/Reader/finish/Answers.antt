@@ -1,5 +1,4 @@
 use Rattle.std.proofs.Common.{◌∙◌, ap, sym, Ok}
-use Rattle.ical_text.specs.Reading.{unless, with_events}
 use Rattle.ical_text.proofs.ReadingLemmas.{ended, whole}
 use Rattle.ical_text.proofs.reader.Reader.finish.Goals as goal
 

@@ -1,9 +1,5 @@
-use Rattle.std.proofs.Common.{◌≡◌, ◌∙◌, ◌+◌, ap, sym, refl, inr, Some, None, option_map}
-use Rattle.ical_text.specs.Held.{place_of}
-use Rattle.ical_text.specs.Properties.{property_of}
-use Rattle.ical_text.specs.Reading.{fault_by}
+use Rattle.std.proofs.Common.{◌∙◌, ◌+◌, ap, sym, refl, inr, Some, None, option_map}
 use Rattle.ical_text.specs.Seen.{property_seen}
-use Rattle.ical_text.specs.declared.fault.IcalFault.TheVariants.{NotLine}
 use Rattle.ical_text.proofs.ReadingLemmas.{refused, taken}
 use Rattle.ical_text.proofs.reader.Reader.take_line.Goals as goal
 
