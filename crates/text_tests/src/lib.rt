@@ -3,6 +3,8 @@
 #![tactic(auto)]
 
 #[cfg(test)]
+mod calendars;
+#[cfg(test)]
 mod dates;
 #[cfg(test)]
 mod json_texts;

@@ -1,0 +1,11 @@
+pub mod CalendarLemmas
+pub mod DayLemmas
+pub mod EventLemmas
+pub mod FoldLemmas
+pub mod LawLemmas
+pub mod LineLemmas
+pub mod MinuteLemmas
+pub mod MomentLemmas
+pub mod PropertyLemmas
+pub mod ReadingLemmas
+pub mod TableLemmas

@@ -1,0 +1,78 @@
+-- Minutes since 2000-01-01 12:00 Universal Time, as calendars write them: YYYYMMDDTHHMM00Z.
+use Rattle.std.specs.Prelude.{ℕ, ◌+◌, ◌-◌, ◌*◌, ◌/◌, ◌%◌, ◌==◌, nat_le, ◌++◌, ℤ, pos, ◌+ℤ◌, ◌-ℤ◌, ◌*ℤ◌, unsigned_abs, Bool, ◌&&◌, if◌then◌else◌, List, codes, length, slice_index, Option, Some, None, option_map, option_and_then}
+use Rattle.std.specs.Char.{is_ascii_digit}
+use Rattle.std.specs.Int.{int_div_euclid, int_rem_euclid}
+use Rattle.jiff_core.specs.Calendar.{days_from_civil, days_in_month}
+use Rattle.jiff_tz.specs.Year.{year_of_day}
+use Rattle.year_table.specs.Dates.{day_of_month, month_of, two_digits}
+use Rattle.ical_text.specs.declared.written.Written.{Written}
+
+-- the day since 1970-01-01 (day 10,957 is 2000-01-01), and the minute of that day
+abbrev pub day_at : ℤ → ℤ
+day_at k = int_div_euclid (k +ℤ pos 720) (pos 1440) +ℤ pos 10957
+
+abbrev pub minute_at : ℤ → ℕ
+minute_at k = unsigned_abs (int_rem_euclid (k +ℤ pos 720) (pos 1440))
+
+-- YYYYMMDD, of the years from 0 to 9999
+abbrev pub parts_text : ℕ → ℕ → ℕ → List ℕ
+parts_text year month day = two_digits (year / 100) ++ two_digits (year % 100) ++ two_digits month ++ two_digits day
+
+abbrev pub date_text : ℤ → List ℕ
+date_text day = parts_text (unsigned_abs (year_of_day day)) (month_of day) (day_of_month day)
+
+-- the first minute of a day
+abbrev pub stamp_text : ℤ → List ℕ
+stamp_text day = date_text day ++ codes "T000000Z"
+
+abbrev pub moment_by : List ℕ → ℕ → List ℕ
+moment_by date minute = date ++ codes "T" ++ two_digits (minute / 60) ++ two_digits (minute % 60) ++ codes "00Z"
+
+abbrev pub moment_text : ℤ → List ℕ
+moment_text k = moment_by (date_text (day_at k)) (minute_at k)
+
+-- the number that the two digits at a place write
+abbrev pub two_digits_at : List ℕ → ℕ → Option ℕ
+two_digits_at s i =
+    if is_ascii_digit (slice_index s i) && is_ascii_digit (slice_index s (i + 1))
+    then Some ((slice_index s i - 48) * 10 + (slice_index s (i + 1) - 48)) else None
+
+abbrev pub written_by : Option ℕ → Option ℕ → Option ℕ → Option ℕ → Option ℕ → Option ℕ → Option Written
+written_by (Some century) (Some year) (Some month) (Some day) (Some hour) (Some minute) =
+    Some (record { year = century * 100 + year; month = month; day = day; hour = hour; minute = minute })
+written_by _ _ _ _ _ _ = None
+
+-- sixteen bytes, of which four have their places: the T, the seconds 00 and the Z
+abbrev pub is_shaped : List ℕ → Bool
+is_shaped s =
+    (length s == 16) && ((slice_index s 8 == 84) && ((slice_index s 13 == 48) && ((slice_index s 14 == 48) && (slice_index s 15 == 90))))
+
+-- the numbers of a text of this form
+unfoldable pub written_in : List ℕ → Option Written
+written_in s =
+    if is_shaped s
+    then written_by (two_digits_at s 0) (two_digits_at s 2) (two_digits_at s 4) (two_digits_at s 6) (two_digits_at s 9) (two_digits_at s 11)
+    else None
+
+-- the calendar has the date, and its year has four digits
+abbrev pub is_date : Written → Bool
+is_date w =
+    nat_le w.year 9999
+    && ((nat_le 1 w.month && nat_le w.month 12) && (nat_le 1 w.day && nat_le w.day (days_in_month (pos w.year) w.month)))
+
+abbrev pub civil_day : Written → Option ℤ
+civil_day w = if is_date w then Some (days_from_civil (pos w.year) w.month w.day) else None
+
+-- a time of the day, in the years from 1899 to 2101
+abbrev pub is_known : Written → Bool
+is_known w = (nat_le 1899 w.year && nat_le w.year 2101) && (nat_le w.hour 23 && nat_le w.minute 59)
+
+abbrev pub minute_number : ℤ → ℕ → ℕ → ℤ
+minute_number day hour minute = (day -ℤ pos 10957) *ℤ pos 1440 -ℤ pos 720 +ℤ pos (hour * 60 + minute)
+
+unfoldable pub number_of : Written → Option ℤ
+number_of w = if is_known w then option_map (λ day. minute_number day w.hour w.minute) (civil_day w) else None
+
+-- the minute of a text
+abbrev pub moment_of : List ℕ → Option ℤ
+moment_of s = option_and_then number_of (written_in s)

@@ -1,0 +1,127 @@
+// Dates and moments of Universal Time as calendars write them.
+ghost use Rattle.std.specs.Prelude.{◌≡◌, ◌≤ℤ◌, neg_ℤ, pos, unsigned_abs, Some, IfOk};
+ghost use Rattle.std.specs.String.{string_bytes};
+ghost use Rattle.jiff.specs.Words.{epoch_day};
+ghost use Rattle.jiff_tz.specs.Year.{year_of_day};
+ghost use Rattle.year_table.specs.Dates.{day_of_month, month_of, two_digits};
+ghost use Rattle.ical_text.specs.Moments.{day_at, date_text, minute_at, moment_by, moment_text, parts_text, stamp_text};
+
+use jiff::ToSpan;
+use jiff::civil::{Date, date};
+use no_memory::NoMemory;
+use std::alloc::Global;
+use std::fmt::{Display, Formatter, Result as Shown, Write};
+
+// the date of a day since 1970-01-01, of a year from 1899 to 2101
+fn date_of(day: i32) -> Date
+    requires not_early { neg_ℤ (pos 26000) ≤ℤ day }
+    requires not_late { day ≤ℤ pos 48000 }
+    ensures { epoch_day result ≡ day }
+{
+    match date(1970, 1, 1).checked_add((day as i64).days()) {
+        Ok(date) => date,
+        Err(_) => unreachable!(),
+    }
+}
+
+// a number below 100 in two digits
+#[derive(Clone, Copy)]
+struct TwoDigits(u32);
+
+impl Display for TwoDigits {
+    ghost output = { λ n. Some (two_digits n.0) };
+
+    fn fmt<W: Write>(&self, f: &mut Formatter<W>) -> Shown {
+        write!(f, "{}{}", self.0 / 10, self.0 % 10)
+    }
+}
+
+// a date as YYYYMMDD
+#[derive(Clone, Copy)]
+struct DateParts {
+    year: u32,
+    month: u32,
+    day: u32,
+}
+
+impl Display for DateParts {
+    ghost output = { λ d. Some (parts_text d.year d.month d.day) };
+
+    fn fmt<W: Write>(&self, f: &mut Formatter<W>) -> Shown {
+        let century = TwoDigits(self.year / 100);
+        let year = TwoDigits(self.year % 100);
+        let month = TwoDigits(self.month);
+        let day = TwoDigits(self.day);
+        write!(f, "{century}{year}{month}{day}")
+    }
+}
+
+fn parts_of(day: i32) -> DateParts
+    requires not_early { neg_ℤ (pos 26000) ≤ℤ day }
+    requires not_late { day ≤ℤ pos 48000 }
+    ensures year { result.year ≡ unsigned_abs (year_of_day day) }
+    ensures month { result.month ≡ month_of day }
+    ensures day { result.day ≡ day_of_month day }
+{
+    let date = date_of(day);
+    DateParts {
+        year: date.year().unsigned_abs() as u32,
+        month: date.month().unsigned_abs() as u32,
+        day: date.day().unsigned_abs() as u32,
+    }
+}
+
+fn date_string(alloc: Global, day: i32) -> Result<String, NoMemory>
+    requires not_early { neg_ℤ (pos 26000) ≤ℤ day }
+    requires not_late { day ≤ℤ pos 48000 }
+    ensures { IfOk result (λ t. string_bytes t ≡ date_text day) }
+{
+    Ok(format!(in alloc; "{}", parts_of(day))?)
+}
+
+/// The first minute of a day since 1970-01-01.
+pub(crate) fn stamp_string(alloc: Global, day: i32) -> Result<String, NoMemory>
+    requires not_early { neg_ℤ (pos 26000) ≤ℤ day }
+    requires not_late { day ≤ℤ pos 48000 }
+    ensures { IfOk result (λ t. string_bytes t ≡ stamp_text day) }
+{
+    let mut stamp = date_string(alloc, day)?;
+    stamp.push_str("T000000Z")?;
+    Ok(stamp)
+}
+
+fn day_at(k: i64) -> i32
+    requires not_early { neg_ℤ (pos 53203000) ≤ℤ k }
+    requires not_late { k ≤ℤ pos 53203000 }
+    ensures value { result ≡ day_at k }
+    ensures not_early { neg_ℤ (pos 26000) ≤ℤ result }
+    ensures not_late { result ≤ℤ pos 48000 }
+{
+    (k + 720).div_euclid(1440) as i32 + 10_957
+}
+
+fn minute_at(k: i64) -> u32
+    requires not_early { neg_ℤ (pos 53203000) ≤ℤ k }
+    requires not_late { k ≤ℤ pos 53203000 }
+    ensures { result ≡ minute_at k }
+{
+    (k + 720).rem_euclid(1440).unsigned_abs() as u32
+}
+
+/// A minute since 2000-01-01 12:00 Universal Time.
+pub(crate) fn moment_string(alloc: Global, k: i64) -> Result<String, NoMemory>
+    requires not_early { neg_ℤ (pos 53203000) ≤ℤ k }
+    requires not_late { k ≤ℤ pos 53203000 }
+    ensures { IfOk result (λ t. string_bytes t ≡ moment_text k) }
+{
+    let date = date_string(alloc, day_at(k))?;
+    moment_by(alloc, date.as_str(), minute_at(k))
+}
+
+fn moment_by(alloc: Global, date: &str, minute: u32) -> Result<String, NoMemory>
+    ensures { IfOk result (λ t. string_bytes t ≡ moment_by date.now minute) }
+{
+    let hours = TwoDigits(minute / 60);
+    let minutes = TwoDigits(minute % 60);
+    Ok(format!(in alloc; "{date}T{hours}{minutes}00Z")?)
+}
