@@ -30,8 +30,11 @@ expect 2 '' "$usage" '' --help
 expect 2 '' "$usage" '' tabel
 expect 2 '' "$usage" '' sun 0 0 0
 expect 2 '' "$usage" '' plain now
+expect 2 '' "$usage" '' table --workers 0
+expect 2 '' "$usage" '' table --workers=17
 expect 3 '' 'order refused 5 range from' '{"from":"2025-02-30"}' plain
 expect 3 '' 'order refused 1 json 1 at 0' '' order
+expect 3 '' 'order refused 1 json 1 at 0' '' table --workers 2
 
 # What the manual page's synopsis has is in the usage line, command by command.
 commands=$(sed -n '/^\.Sh SYNOPSIS/,/^\.Sh DESC/p' "$top/docs/timetable.1" | sed -n 's/^\.Cm //p')

@@ -11,13 +11,13 @@ class BelievedTest(ToolTest):
         return {name for _, name in files}
 
     def test_each_clause_rests_on_files_that_stand(self):
-        for clause, among in (('right', 'order_table/specs/RightTable'), ('right', 'command_input/specs/Input'),
+        for clause, among in (('headline', 'order_table/specs/RightTable'), ('headline', 'command_input/specs/Input'),
                               ('truth', 'sun_verdict/specs/Truth'), ('ended', 'timetable/specs/Ended')):
             with self.subTest(clause):
                 files = self.listed(clause)
                 self.assertIn(f'crates/{among}.antt', files)
                 self.assertTrue(all(os.path.isfile(os.path.join(TOP, name)) for name in files))
-        self.assertEqual(self.listed(), self.listed('right'))
+        self.assertEqual(self.listed(), self.listed('headline'))
 
     def test_operators_cases_and_types_in_one_another_are_followed(self):
         text, _ = self.done('believed', '--text')
