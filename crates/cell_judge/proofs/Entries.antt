@@ -87,9 +87,9 @@ by_leaf P Q X ls f each some = from_some X ls (Somewhere-weaker P Q (λ l. X) ls
 
 -- ---- what the leaves say
 
--- each place of the district at each rank is in a leaf
+-- each place of the district at each rank above the greatest refuted one is in a leaf
 abbrev pub AreCovering : Scene → List Leaf → Type 0
-AreCovering s ls = (p : Place) → IsPlaceOf s p → (rank : ℕ) → rank ≤ 720 → Somewhere (λ l. Covers p rank l.task.cell) ls
+AreCovering s ls = (p : Place) → IsPlaceOf s p → (rank : ℕ) → refuted_word ls ≤ rank → rank ≤ 720 → Somewhere (λ l. Covers p rank l.task.cell) ls
 
 -- beyond the refuted and the open ranks the condition holds
 holds_beyond : (s : Scene) (root : Cell) (l : Leaf) (p : Place) (rank word n : ℕ) → IsTrueLeaf s root l → Covers p rank l.task.cell →
@@ -116,7 +116,7 @@ safe_beyond s root ls n each covering refuted open' = record {
       (λ l. Covers p rank l.task.cell) (HoldsAt s p rank) ls
       (λ l known covers. holds_beyond s root l p rank (refuted_word ls) n known.0 covers place refuted from known.1 known.2)
       (Every-three _ _ _ ls each (most (λ l. is_refuted l.verdict) n ls refuted) (most (is_open_above (refuted_word ls)) n ls open'))
-      (covering p place rank in_frame);
+      (covering p place rank (omega (arith, refuted, from)) in_frame);
 }
   where
     Every-three : (P Q R : Leaf → Type 0) (xs : List Leaf) → Every P xs → Every Q xs → Every R xs → Every (λ x. P x × Q x × R x) xs

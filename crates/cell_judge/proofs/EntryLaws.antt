@@ -52,7 +52,7 @@ true_leaves c law k known s truth =
     (leaves_in_tree c (root_task c k) (top k known)))
 
 covering_leaves : (c : Content) → IsLawful c → (k : ℕ) → k < c.problems → (s : Scene) → LiesInRoot s c.root → AreCovering s (leaves c (root_task c k))
-covering_leaves c law k known s inside p place rank last =
+covering_leaves c law k known s inside p place rank above last =
     let ranks = law.root in
     leaves_cover c law (root_task c k) (root_is_task c law k known) p rank
     (record { in_box = inside p place; from_first = omega (arith, ranks.first); to_last = omega (arith, ranks.last, last) })

@@ -1,23 +1,25 @@
 -- How a run answers what it read.
-use Rattle.std.proofs.Common.{◌≡◌, ◌⊎◌, Ok, Err, Result, inl, inr, refl, sym, subst}
+use Rattle.std.proofs.Common.{◌≡◌, ◌⊎◌, ℕ, List, Ok, Err, Result, inl, inr, refl, sym, subst}
 use Rattle.std.specs.Prelude.{◌≢◌}
-use Rattle.command_input.specs.Answers.{Answers, IsTooLong, answer_by}
-use Rattle.command_input.specs.Input.{Given, Input, an_order, nothing, order, read, too_long, unread}
-use Rattle.command_input.specs.Refusals.{long_line, refusal_line}
-use Rattle.command_input.specs.Taken.{IsReadAs, ReadCase}
+use Rattle.command_input.specs.Answers.{Answers, IsTaken, IsTooLong, Leaves, answer_by, answer_shown}
+use Rattle.command_input.specs.Input.{Given, Input, Wanted, a_covering, an_order, covering, limit_of, nothing, order, read, too_long, unread}
+use Rattle.command_input.specs.Taken.{IsCoveringReadAs, IsReadAs, IsTakenAs, ReadCase, Refusing, covered_of, of_coverings, of_orders}
+use Rattle.command_input.specs.declared.covering.Covering.{Covering}
 use Rattle.command_input.proofs.InputLemmas.{told_by}
 use Rattle.order_reader.specs.Asked.{Asked, asked_of}
 use Rattle.order_reader.specs.declared.fault.OrderFault.{OrderFault}
 use Rattle.order_reader.specs.declared.order.Order.{Order}
 use Rattle.outcome.proofs.Endings.{given_up, order_refused}
 use Rattle.outcome.proofs.Endings.{unread as read_failed}
-use Rattle.outcome.specs.Answer.{Answer}
-use Rattle.outcome.specs.Endings.{EndsBy, status_of_ending}
+use Rattle.outcome.proofs.Streams.{adds_nothing}
+use Rattle.outcome.specs.Answer.{Answer, line_of, refusal}
+use Rattle.outcome.specs.Endings.{EndsBy, IsRefusedBy, status_of_ending}
+use Rattle.outcome.specs.Ends.{EndsAs}
 use Rattle.outcome.specs.Streams.{Stream}
 use Rattle.outcome.specs.declared.ending.Ending.{Ending}
 use Rattle.outcome.specs.declared.ending.Ending.TheVariants.{Plain, Refused}
 use Rattle.outcome.specs.declared.status.Status.{Status}
-use Rattle.outcome.specs.declared.status.Status.TheVariants.{NoMemory, ReadFault}
+use Rattle.outcome.specs.declared.status.Status.TheVariants.{CoverRefused, NoMemory, ReadFault}
 use Rattle.source_sink.specs.Outside.{Rose}
 use Rattle.source_sink.specs.Reading.{IsReadToEnd}
 
@@ -34,51 +36,117 @@ answers_unread answer ending source out out' ends no_read =
       leaves = (refl, no_read);
     }
 
--- an order that was read
+-- ---- an input of one kind
+
+-- what is taken of the source is what a run by such an input leaves of it
+abbrev IsTakenWhole : Wanted → Type 0
+IsTakenWhole wanted = (input : Input) (status : Status) (source source' : Stream) →
+    IsTaken (limit_of wanted) input status source source' → Leaves wanted input status source source'
+
+-- the answer to what is none is its refusal
+record IsRefusedAs {A : Type 0} (input : Given (Result A OrderFault) → Input) (how : Refusing) (answer : Input → Answer) : Type 0 where
+  long : answer (input too_long) ≡ refusal how.status how.long
+  is_long : IsTooLong (input too_long)
+  fault : (e : OrderFault) → answer (input (read (Err e))) ≡ refusal how.status (how.line e)
+  ends : (line : List ℕ) (ending : Ending) (source source' out : Stream) → IsRefusedBy how.status line ending →
+      EndsBy (refusal how.status line) ending source source' out out
+
+module _ {X A : Type 0} (wanted : Wanted) (input : Given (Result A OrderFault) → Input) (how : Refusing) (view : X → A) (answer : Input → Answer)
+    (whole : IsTakenWhole wanted) where
+  -- that was read
+  answers_read : (x : X) (ending : Ending) (source source' out out' : Stream) → IsTakenAs wanted input how view source source' (Ok x) →
+      EndsBy (answer (input (read (Ok (view x))))) ending source source' out out' → Answers wanted answer ending source source' out out'
+  answers_read x ending source source' out out' is ends = record {
+    input = input is.given;
+    spelled = is.spelled;
+    ends = subst (λ (g : Given (Result A OrderFault)). EndsBy (answer (input g)) ending source source' out out') (sym is.case.0) ends;
+    leaves = whole (input is.given) (status_of_ending ending) source source'
+        (record { within = is.within; whole = λ no_read memory short. is.case.1; later = is.later });
+  }
+
+  -- that was not read
+  answers_unfit : (ending : Ending) (source source' out : Stream) → IsRefusedAs input how answer →
+      IsTakenAs wanted input how view source source' (Err ending) → Answers wanted answer ending source source' out out
+  answers_unfit (Plain status) source source' out refused is = by is.case where
+    by : (status ≡ NoMemory) ⊎ ((status ≡ ReadFault) × Rose source.faults source'.faults) →
+        Answers wanted answer (Plain status) source source' out out
+    by (inl memory) = record {
+      input = input is.given;
+      spelled = is.spelled;
+      ends = subst (λ (s : Status). EndsBy (answer (input is.given)) (Plain s) source source' out out) (sym memory)
+          (given_up (answer (input is.given)) source source' out);
+      leaves = whole (input is.given) status source source'
+          (record { within = is.within; whole = λ no_read no_memory short. absurd (no_memory memory); later = is.later });
+    }
+    by (inr (read_fault, rose)) = record {
+      input = input is.given;
+      spelled = is.spelled;
+      ends = subst (λ (s : Status). EndsBy (answer (input is.given)) (Plain s) source source' out out) (sym read_fault)
+          (read_failed (answer (input is.given)) source source' out rose);
+      leaves = whole (input is.given) status source source'
+          (record { within = is.within; whole = λ no_read no_memory short. absurd (no_read read_fault); later = is.later });
+    }
+  answers_unfit (Refused status line) source source' out refused is =
+      let (ends, all) = by is.given is.case in
+      record {
+        input = input is.given;
+        spelled = is.spelled;
+        ends = ends;
+        leaves = whole (input is.given) status source source'
+            (record { within = is.within; whole = λ no_read no_memory. all; later = is.later });
+      }
+    where
+      by : (g : Given (Result A OrderFault)) → ReadCase how view g (Err (Refused status line)) source source' →
+          EndsBy (answer (input g)) (Refused status line) source source' out out ×
+          ((IsTooLong (input g) → ⊥) → IsReadToEnd source.bytes source'.bytes)
+      by too_long (is_status, is_line) = (
+        subst (λ (a : Answer). EndsBy a (Refused status line) source source' out out) (sym refused.long)
+            (refused.ends how.long (Refused status line) source source' out (is_status, is_line)),
+        λ short. absurd (short refused.is_long),
+      )
+      by (read (Err fault)) (is_status, is_line, all) = (
+        subst (λ (a : Answer). EndsBy a (Refused status line) source source' out out) (sym (refused.fault fault))
+            (refused.ends (how.line fault) (Refused status line) source source' out (is_status, is_line)),
+        λ short. all,
+      )
+      by (read (Ok a)) case = absurd case
+
+-- ---- an order
+
+-- that was read
 pub answers_order : (f : Asked → Answer) (o : Order) (ending : Ending) (source source' out out' : Stream) →
     IsReadAs source source' (Ok o) → EndsBy (f (asked_of o)) ending source source' out out' →
     Answers an_order (answer_by f) ending source source' out out'
-answers_order f o ending source source' out out' is ends = record {
-  input = order is.given;
-  spelled = is.spelled;
-  ends = subst (λ (g : Given (Result Asked OrderFault)). EndsBy (answer_by f (order g)) ending source source' out out') (sym is.case.0) ends;
-  leaves = record { within = is.within; whole = λ no_read memory short. is.case.1; later = is.later };
-}
+answers_order f = answers_read an_order order of_orders asked_of (answer_by f) (λ input status source source' taken. taken)
 
 -- an input that was not read as an order
 pub answers_refused : (f : Asked → Answer) (ending : Ending) (source source' out : Stream) → IsReadAs source source' (Err ending) →
     Answers an_order (answer_by f) ending source source' out out
-answers_refused f (Plain status) source source' out is = by is.case where
-  by : (status ≡ NoMemory) ⊎ ((status ≡ ReadFault) × Rose source.faults source'.faults) →
-      Answers an_order (answer_by f) (Plain status) source source' out out
-  by (inl memory) = record {
-    input = order is.given;
-    spelled = is.spelled;
-    ends = subst (λ (s : Status). EndsBy (answer_by f (order is.given)) (Plain s) source source' out out) (sym memory)
-        (given_up (answer_by f (order is.given)) source source' out);
-    leaves = record { within = is.within; whole = λ no_read no_memory short. absurd (no_memory memory); later = is.later };
-  }
-  by (inr (read_fault, rose)) = record {
-    input = order is.given;
-    spelled = is.spelled;
-    ends = subst (λ (s : Status). EndsBy (answer_by f (order is.given)) (Plain s) source source' out out) (sym read_fault)
-        (read_failed (answer_by f (order is.given)) source source' out rose);
-    leaves = record { within = is.within; whole = λ no_read no_memory short. absurd (no_read read_fault); later = is.later };
-  }
-answers_refused f (Refused status line) source source' out is =
-    let (ends, whole) = by is.given is.case in
-    record {
-      input = order is.given;
-      spelled = is.spelled;
-      ends = ends;
-      leaves = record { within = is.within; whole = λ no_read no_memory. whole; later = is.later };
-    }
-  where
-    by : (g : Given (Result Asked OrderFault)) → ReadCase g (Err (Refused status line)) source source' →
-        EndsBy (answer_by f (order g)) (Refused status line) source source' out out ×
-        ((IsTooLong (order g) → ⊥) → IsReadToEnd source.bytes source'.bytes)
-    by too_long (is_status, is_line) =
-        (order_refused long_line (Refused status line) source source' out (is_status, is_line), λ short. absurd (short tt))
-    by (read (Err fault)) (is_status, is_line, all) =
-        (order_refused (refusal_line fault) (Refused status line) source source' out (is_status, is_line), λ short. all)
-    by (read (Ok o)) case = absurd case
+answers_refused f ending source source' out =
+    answers_unfit {X = Order} an_order order of_orders asked_of (answer_by f) (λ input status source source' taken. taken) ending source source' out
+    (record { long = refl; is_long = tt; fault = λ e. refl; ends = order_refused })
+
+-- ---- a covering
+
+cover_refused : (line : List ℕ) (ending : Ending) (source source' out : Stream) → IsRefusedBy CoverRefused line ending →
+    EndsBy (refusal CoverRefused line) ending source source' out out
+unfolding EndsAs line_of
+cover_refused line (Plain status) source source' out is_memory =
+    let P : Status → Type 0 = λ s. EndsBy (refusal CoverRefused line) (Plain s) source source' out out in
+    subst P (sym is_memory) (given_up (refusal CoverRefused line) source source' out)
+cover_refused line (Refused status text) source source' out is =
+    let P : Status → Type 0 = λ s. EndsBy (refusal CoverRefused line) (Refused s text) source source' out out in
+    subst P (sym is.0) (record { ends = (refl, adds_nothing out.bytes); line = is.1 })
+
+-- that was read
+pub answers_covering : (f : Asked → List ℕ → Answer) (c : Covering) (ending : Ending) (source source' out out' : Stream) →
+    IsCoveringReadAs source source' (Ok c) → EndsBy (f (covered_of c).order (covered_of c).lines) ending source source' out out' →
+    Answers a_covering (answer_shown f) ending source source' out out'
+answers_covering f = answers_read a_covering covering of_coverings covered_of (answer_shown f) (λ input status source source' taken. taken)
+
+-- an input that was not read as a covering
+pub answers_no_covering : (f : Asked → List ℕ → Answer) (ending : Ending) (source source' out : Stream) → IsCoveringReadAs source source' (Err ending) →
+    Answers a_covering (answer_shown f) ending source source' out out
+answers_no_covering f ending source source' out =
+    answers_unfit {X = Covering} a_covering covering of_coverings covered_of (answer_shown f) (λ input status source source' taken. taken) ending source source' out
+    (record { long = refl; is_long = tt; fault = λ e. refl; ends = cover_refused })

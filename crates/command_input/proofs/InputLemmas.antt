@@ -1,23 +1,23 @@
 -- What bytes are as an input, and what was read of them.
-use Rattle.std.proofs.Common.{◌≡◌, ℕ, ◌+◌, ◌<◌, ◌≤◌, ◌⊎◌, inl, inr, List, [], length, Bool, true, false, Option, Some, None, Ok, Err, Result, refl, ap, arith}
+use Rattle.std.proofs.Common.{◌≡◌, ◌∙◌, sym, ℕ, ◌+◌, ◌<◌, ◌≤◌, ◌⊎◌, inl, inr, List, [], length, Bool, true, false, Option, Some, None, Ok, Err, Result, refl, ap, arith}
 use Rattle.std.specs.Prelude.{nat_le, replicate}
 use Rattle.std.proofs.lemmas.Bool.{leb-true, leb-false}
 use Rattle.std.proofs.lemmas.List.{length-replicate}
-use Rattle.command_input.specs.Input.{EveryTextIsAnInput, Given, InputsAgree, IsGiven, IsSpelled, IsSpelledBy, an_order, limit_of, nothing, order, read, too_long, unread}
-use Rattle.command_input.specs.Refusals.{long_line}
-use Rattle.command_input.specs.Taken.{IsReadAs, IsRefusalOf}
-use Rattle.order_reader.proofs.ReadLaws.{every_text_is_read_or_refused, order_readings_agree}
-use Rattle.order_reader.specs.Asked.{Asked, asked_of}
-use Rattle.order_reader.specs.Reads.{ReadsOrder}
+use Rattle.command_input.specs.Input.{Covered, EveryTextIsAnInput, Given, Input, InputsAgree, IsGiven, IsSpelled, IsSpelledBy, ReadsCovering, Wanted, a_covering, an_order, covering, limit_of, nothing, order, read, too_long, unread}
+use Rattle.command_input.specs.Lines.{behind_line, first_line}
+use Rattle.command_input.specs.Taken.{IsRefusalOf, IsTakenAs, Refusing}
+use Rattle.order_reader.proofs.ReadLaws.{every_text_is_read_or_refused, line_readings_agree, order_readings_agree, some_answer}
+use Rattle.order_reader.specs.Asked.{Asked}
+use Rattle.order_reader.specs.LineReading.{line_order_in}
+use Rattle.order_reader.specs.Reads.{ReadsLine, ReadsOrder}
 use Rattle.order_reader.specs.declared.fault.OrderFault.{OrderFault}
 use Rattle.order_reader.specs.declared.fault.OrderFault.TheVariants.{NoMemory as OrderNoMemory}
-use Rattle.order_reader.specs.declared.order.Order.{Order}
 use Rattle.outcome.specs.Endings.{IsRefusedBy}
 use Rattle.outcome.specs.Streams.{Stream}
 use Rattle.outcome.specs.declared.ending.Ending.{Ending}
 use Rattle.outcome.specs.declared.ending.Ending.TheVariants.{Plain, Refused}
 use Rattle.outcome.specs.declared.status.Status.{Status}
-use Rattle.outcome.specs.declared.status.Status.TheVariants.{NoMemory, OrderRefused, ReadFault}
+use Rattle.outcome.specs.declared.status.Status.TheVariants.{NoMemory, ReadFault}
 use Rattle.source_sink.specs.Outside.{Rose}
 use Rattle.source_sink.specs.Reading.{GivesAll, GivesWithin, IsLonger}
 
@@ -30,14 +30,48 @@ given_agree limit Reads bytes agree too_long (read y) is other = absurd (omega (
 given_agree limit Reads bytes agree (read x) too_long is other = absurd (omega (arith, other, is.0))
 given_agree limit Reads bytes agree (read x) (read y) is other = ap read (agree x y is.1 other.1)
 
+-- coverings are read in one way
+same_ok : (x y : Result Asked OrderFault) (a b : Asked) → x ≡ y → x ≡ Ok a → y ≡ Ok b → a ≡ b
+same_ok x y a b same is other = cc
+
+same_err : (x y : Result Asked OrderFault) (e f : OrderFault) → x ≡ y → x ≡ Err e → y ≡ Err f → e ≡ f
+same_err x y e f same is other = cc
+
+no_err : (x y : Result Asked OrderFault) (a : Asked) (e : OrderFault) → x ≡ y → x ≡ Ok a → y ≡ Err e → ⊥
+no_err x y a e same is other = cc
+
+same_covered : (c d : Covered) → c.order ≡ d.order → c.lines ≡ d.lines → c ≡ d
+same_covered c d same rest = λ i. record { order = same i; lines = rest i }
+
+coverings_agree : (bytes : List ℕ) (x y : Result Covered OrderFault) → ReadsCovering bytes x → ReadsCovering bytes y → x ≡ y
+coverings_agree bytes (Ok c) (Ok d) is other =
+    ap Ok (same_covered c d (same_ok _ _ c.order d.order (line_readings_agree (first_line bytes) (Ok c.order) (Ok d.order) is.0 other.0) refl refl)
+    (is.1 ∙ sym other.1))
+coverings_agree bytes (Ok c) (Err e) is other =
+    absurd (no_err _ _ c.order e (line_readings_agree (first_line bytes) (Ok c.order) (Err e) is.0 other) refl refl)
+coverings_agree bytes (Err e) (Ok d) is other =
+    absurd (no_err _ _ d.order e (line_readings_agree (first_line bytes) (Ok d.order) (Err e) other.0 is) refl refl)
+coverings_agree bytes (Err e) (Err f) is other =
+    ap Err (same_err _ _ e f (line_readings_agree (first_line bytes) (Err e) (Err f) is other) refl refl)
+
 pub inputs_agree : InputsAgree
 inputs_agree nothing bytes unread unread is other = refl
 inputs_agree nothing bytes unread (order h) is other = absurd other
+inputs_agree nothing bytes unread (covering h) is other = absurd other
 inputs_agree nothing bytes (order g) j is other = absurd is
+inputs_agree nothing bytes (covering g) j is other = absurd is
 inputs_agree an_order bytes unread j is other = absurd is
+inputs_agree an_order bytes (covering g) j is other = absurd is
 inputs_agree an_order bytes (order g) unread is other = absurd other
+inputs_agree an_order bytes (order g) (covering h) is other = absurd other
 inputs_agree an_order bytes (order g) (order h) is other =
     ap order (given_agree (limit_of an_order) ReadsOrder bytes (order_readings_agree bytes) g h is other)
+inputs_agree a_covering bytes unread j is other = absurd is
+inputs_agree a_covering bytes (order g) j is other = absurd is
+inputs_agree a_covering bytes (covering g) unread is other = absurd other
+inputs_agree a_covering bytes (covering g) (order h) is other = absurd other
+inputs_agree a_covering bytes (covering g) (covering h) is other =
+    ap covering (given_agree (limit_of a_covering) ReadsCovering bytes (coverings_agree bytes) g h is other)
 
 some_given : {X : Type 0} (limit : ℕ) (Reads : List ℕ → X → Type 0) (bytes : List ℕ) → (x : X) × Reads bytes x →
     (g : Given X) × IsGiven limit Reads bytes g
@@ -46,24 +80,26 @@ some_given {X = X} limit Reads bytes (x, reads) = by (nat_le (length bytes) limi
   by true few = (read x, (leb-true (length bytes) limit few, reads))
   by false many = (too_long, leb-false (length bytes) limit many)
 
-some_order : (bytes : List ℕ) → (g : Given (Result Asked OrderFault)) × IsSpelled an_order bytes (order g)
+pub some_order : (bytes : List ℕ) → (g : Given (Result Asked OrderFault)) × IsSpelled an_order bytes (order g)
 some_order bytes = some_given (limit_of an_order) ReadsOrder bytes (every_text_is_read_or_refused bytes)
+
+some_covered : (bytes : List ℕ) → (x : Result Asked OrderFault) × ReadsLine (first_line bytes) x → (y : Result Covered OrderFault) × ReadsCovering bytes y
+some_covered bytes (Ok o, is) = (Ok (record { order = o; lines = behind_line bytes }), (is, refl))
+some_covered bytes (Err fault, is) = (Err fault, is)
+
+pub some_covering : (bytes : List ℕ) → (g : Given (Result Covered OrderFault)) × IsSpelled a_covering bytes (covering g)
+some_covering bytes =
+    some_given (limit_of a_covering) ReadsCovering bytes (some_covered bytes (some_answer line_order_in (first_line bytes)))
 
 -- all bytes are an input
 pub every_text_is_an_input : EveryTextIsAnInput
 every_text_is_an_input nothing bytes = (unread, tt)
 every_text_is_an_input an_order bytes = let (g, is) = some_order bytes in (order g, is)
+every_text_is_an_input a_covering bytes = let (g, is) = some_covering bytes in (covering g, is)
 
 pub told_by : (left : Option (List ℕ)) → (bytes : List ℕ) × ((x : List ℕ) → left ≡ Some x → x ≡ bytes)
 told_by None = ([], λ x told. absurd cc)
 told_by (Some bytes) = (bytes, λ x told. cc)
-
--- a source has one, whatever it tells
-some_order_by : (left : Option (List ℕ)) → (g : Given (Result Asked OrderFault)) × IsSpelledBy an_order left (order g)
-some_order_by left =
-    let (bytes, told) = told_by left in
-    let (g, is) = some_order bytes in
-    (g, record { bytes = bytes; told = told; spelled = is })
 
 -- more bytes than the limit, those left where they are told
 long_by : (left : Option (List ℕ)) (limit : ℕ) → IsLonger left limit →
@@ -74,55 +110,66 @@ long_by None limit longer =
     (zeros, λ x told. absurd cc, omega (arith, count))
 long_by (Some bytes) limit longer = (bytes, λ x told. cc, longer bytes refl)
 
--- ---- what was read
+-- ---- what was read of one kind of input
 
--- a fault, or want of memory
-pub read_not : (source source' : Stream) (status : Status) → GivesWithin (limit_of an_order) source.bytes source'.bytes →
-    source.faults ≤ source'.faults → (status ≡ NoMemory) ⊎ ((status ≡ ReadFault) × Rose source.faults source'.faults) →
-    IsReadAs source source' (Err (Plain status))
-read_not source source' status within later cause =
-    let (g, spelled) = some_order_by source.bytes in
-    record { given = g; spelled = spelled; case = cause; within = within; later = later }
+module _ {X A : Type 0} (wanted : Wanted) (input : Given (Result A OrderFault) → Input) (how : Refusing) (view : X → A)
+    (some : (bytes : List ℕ) → (g : Given (Result A OrderFault)) × IsSpelled wanted bytes (input g)) where
+  -- a source has one, whatever it tells
+  some_by : (left : Option (List ℕ)) → (g : Given (Result A OrderFault)) × IsSpelledBy wanted left (input g)
+  some_by left =
+      let (bytes, told) = told_by left in
+      let (g, is) = some bytes in
+      (g, record { bytes = bytes; told = told; spelled = is })
 
--- an order
-pub read_whole : (source source' : Stream) (bytes : List ℕ) (o : Order) → GivesWithin (limit_of an_order) source.bytes source'.bytes →
-    source.faults ≤ source'.faults → GivesAll source.bytes source'.bytes bytes → length bytes ≤ limit_of an_order →
-    ReadsOrder bytes (Ok (asked_of o)) → IsReadAs source source' (Ok o)
-read_whole source source' bytes o within later gives few reads = record {
-  given = read (Ok (asked_of o));
-  spelled = record { bytes = bytes; told = λ x told. (gives x told).1; spelled = (few, reads) };
-  case = (refl, λ x told. (gives x told).0);
-  within = within;
-  later = later;
-}
+  -- a fault, or want of memory
+  pub read_not : (source source' : Stream) (status : Status) → GivesWithin (limit_of wanted) source.bytes source'.bytes →
+      source.faults ≤ source'.faults → (status ≡ NoMemory) ⊎ ((status ≡ ReadFault) × Rose source.faults source'.faults) →
+      IsTakenAs wanted input how view source source' (Err (Plain status))
+  read_not source source' status within later cause =
+      let (g, spelled) = some_by source.bytes in
+      record { given = g; spelled = spelled; case = cause; within = within; later = later }
 
--- more bytes than an order has
-pub read_long : (source source' : Stream) (ending : Ending) → GivesWithin (limit_of an_order) source.bytes source'.bytes →
-    source.faults ≤ source'.faults → IsLonger source.bytes (limit_of an_order) → IsRefusedBy OrderRefused long_line ending →
-    IsReadAs source source' (Err ending)
-read_long source source' (Plain status) within later longer is = read_not source source' status within later (inl is)
-read_long source source' (Refused status line) within later longer is =
-    let (bytes, told, long) = long_by source.bytes (limit_of an_order) longer in
-    record {
-      given = too_long;
-      spelled = record { bytes = bytes; told = told; spelled = long };
-      case = is;
-      within = within;
-      later = later;
-    }
+  -- the whole
+  pub read_whole : (source source' : Stream) (bytes : List ℕ) (x : X) → GivesWithin (limit_of wanted) source.bytes source'.bytes →
+      source.faults ≤ source'.faults → GivesAll source.bytes source'.bytes bytes → IsSpelled wanted bytes (input (read (Ok (view x)))) →
+      IsTakenAs wanted input how view source source' (Ok x)
+  read_whole source source' bytes x within later gives spelled = record {
+    given = read (Ok (view x));
+    spelled = record { bytes = bytes; told = λ x told. (gives x told).1; spelled = spelled };
+    case = (refl, λ x told. (gives x told).0);
+    within = within;
+    later = later;
+  }
 
--- what is no order
-pub read_refused : (source source' : Stream) (bytes : List ℕ) (fault : OrderFault) (ending : Ending) →
-    GivesWithin (limit_of an_order) source.bytes source'.bytes → source.faults ≤ source'.faults →
-    GivesAll source.bytes source'.bytes bytes → length bytes ≤ limit_of an_order →
-    (fault ≡ OrderNoMemory) ⊎ ReadsOrder bytes (Err fault) → IsRefusalOf fault ending → IsReadAs source source' (Err ending)
-read_refused source source' bytes fault (Plain status) within later gives few reads is =
-    read_not source source' status within later (inl is)
-read_refused source source' bytes fault (Refused status line) within later gives few (inl memory) is = absurd (is.2 memory)
-read_refused source source' bytes fault (Refused status line) within later gives few (inr reads) is = record {
-  given = read (Err fault);
-  spelled = record { bytes = bytes; told = λ x told. (gives x told).1; spelled = (few, reads) };
-  case = (is.0, is.1, λ x told. (gives x told).0);
-  within = within;
-  later = later;
-}
+  -- more bytes than there may be
+  pub read_long : (source source' : Stream) (ending : Ending) →
+      ((bytes : List ℕ) → limit_of wanted < length bytes → IsSpelled wanted bytes (input too_long)) →
+      GivesWithin (limit_of wanted) source.bytes source'.bytes → source.faults ≤ source'.faults →
+      IsLonger source.bytes (limit_of wanted) → IsRefusedBy how.status how.long ending → IsTakenAs wanted input how view source source' (Err ending)
+  read_long source source' (Plain status) spelled within later longer is = read_not source source' status within later (inl is)
+  read_long source source' (Refused status line) spelled within later longer is =
+      let (bytes, told, long) = long_by source.bytes (limit_of wanted) longer in
+      record {
+        given = too_long;
+        spelled = record { bytes = bytes; told = told; spelled = spelled bytes long };
+        case = is;
+        within = within;
+        later = later;
+      }
+
+  -- what is none
+  pub read_refused : (source source' : Stream) (bytes : List ℕ) (fault : OrderFault) (ending : Ending) →
+      GivesWithin (limit_of wanted) source.bytes source'.bytes → source.faults ≤ source'.faults →
+      GivesAll source.bytes source'.bytes bytes →
+      (fault ≡ OrderNoMemory) ⊎ IsSpelled wanted bytes (input (read (Err fault))) → IsRefusalOf how fault ending →
+      IsTakenAs wanted input how view source source' (Err ending)
+  read_refused source source' bytes fault (Plain status) within later gives spelled is =
+      read_not source source' status within later (inl is)
+  read_refused source source' bytes fault (Refused status line) within later gives (inl memory) is = absurd (is.2 memory)
+  read_refused source source' bytes fault (Refused status line) within later gives (inr spelled) is = record {
+    given = read (Err fault);
+    spelled = record { bytes = bytes; told = λ x told. (gives x told).1; spelled = spelled };
+    case = (is.0, is.1, λ x told. (gives x told).0);
+    within = within;
+    later = later;
+  }

@@ -1,14 +1,14 @@
 -- The answer to an input, and what a run by it left of its source.
-use Rattle.std.specs.Prelude.{◌≡◌, ◌≢◌, ℕ, ◌≤◌, Ok, Err}
-use Rattle.command_input.specs.Input.{Input, IsSpelledBy, Wanted, limit_of, nothing, order, read, too_long}
-use Rattle.command_input.specs.Refusals.{long_line, refusal_line}
+use Rattle.std.specs.Prelude.{◌≡◌, ◌≢◌, ℕ, ◌≤◌, List, Ok, Err}
+use Rattle.command_input.specs.Input.{Input, IsSpelledBy, Wanted, covering, limit_of, nothing, order, read, too_long}
+use Rattle.command_input.specs.Refusals.{covering_line, long_covering, long_line, refusal_line}
 use Rattle.order_reader.specs.Asked.{Asked}
 use Rattle.outcome.specs.Answer.{Answer, refusal, usage_answer}
 use Rattle.outcome.specs.Endings.{EndsBy, status_of_ending}
 use Rattle.outcome.specs.Streams.{Stream}
 use Rattle.outcome.specs.declared.ending.Ending.{Ending}
 use Rattle.outcome.specs.declared.status.Status.{Status}
-use Rattle.outcome.specs.declared.status.Status.TheVariants.{NoMemory, OrderRefused, ReadFault}
+use Rattle.outcome.specs.declared.status.Status.TheVariants.{CoverRefused, NoMemory, OrderRefused, ReadFault}
 use Rattle.source_sink.specs.Reading.{GivesWithin, IsReadToEnd}
 
 -- by the order that was read, or its first refusal
@@ -18,8 +18,16 @@ answer_by answer (order (read (Err fault))) = refusal OrderRefused (refusal_line
 answer_by answer (order (read (Ok o))) = answer o
 answer_by answer input = usage_answer
 
+-- by the covering that was read, its order and the text of its other lines, or the first refusal of its first line
+abbrev pub answer_shown : (Asked → List ℕ → Answer) → Input → Answer
+answer_shown answer (covering too_long) = refusal CoverRefused long_covering
+answer_shown answer (covering (read (Err fault))) = refusal CoverRefused (covering_line fault)
+answer_shown answer (covering (read (Ok c))) = answer c.order c.lines
+answer_shown answer input = usage_answer
+
 abbrev pub IsTooLong : Input → Type 0
 IsTooLong (order too_long) = Unit {0}
+IsTooLong (covering too_long) = Unit {0}
 IsTooLong input = ⊥
 
 -- The first bytes of the source were taken, at most one piece more than the limit; and all of them, but for a read fault,

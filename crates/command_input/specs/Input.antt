@@ -1,28 +1,43 @@
 -- The input of a command: what the bytes of its source are as what it wants.
-use Rattle.std.specs.Prelude.{◌≡◌, ℕ, ◌<◌, ◌≤◌, List, length, Option, Some, Result}
+use Rattle.std.specs.Prelude.{◌≡◌, ℕ, ◌<◌, ◌≤◌, List, length, Option, Some, Result, Ok, Err}
+use Rattle.command_input.specs.Lines.{behind_line, first_line}
 use Rattle.order_reader.specs.Asked.{Asked}
-use Rattle.order_reader.specs.Reads.{ReadsOrder}
+use Rattle.order_reader.specs.Reads.{ReadsLine, ReadsOrder}
 use Rattle.order_reader.specs.declared.fault.OrderFault.{OrderFault}
 
 -- what a command reads
 pub data Wanted : Type 0 where
   nothing : Wanted
   an_order : Wanted
+  a_covering : Wanted
 
 -- the most bytes of it
 abbrev pub limit_of : Wanted → ℕ
 limit_of nothing = 0
 limit_of an_order = 16_777_216
+limit_of a_covering = 1_073_741_824
 
 -- bytes that were read to their end, or more of them than the limit
 pub data Given (X : Type 0) : Type 0 where
   too_long : Given X
   read : X → Given X
 
+-- a covering: the order that its first line spells, and the text behind that line
+pub record Covered : Type 0 where
+  pub order : Asked
+  pub lines : List ℕ
+
+-- the bytes are a covering, or its first line is refused
+abbrev pub ReadsCovering : List ℕ → Result Covered OrderFault → Type 0
+ReadsCovering bytes (Ok c) = ReadsLine (first_line bytes) (Ok c.order) × (c.lines ≡ behind_line bytes)
+ReadsCovering bytes (Err fault) = ReadsLine (first_line bytes) (Err fault)
+
 pub data Input : Type 0 where
   unread : Input
   -- an order, or its first refusal
   order : Given (Result Asked OrderFault) → Input
+  -- a covering, or the first refusal of its first line
+  covering : Given (Result Covered OrderFault) → Input
 
 -- what the bytes are by a reading of them, up to a limit
 abbrev pub IsGiven : {X : Type 0} → ℕ → (List ℕ → X → Type 0) → List ℕ → Given X → Type 0
@@ -33,6 +48,7 @@ IsGiven limit Reads bytes (read x) = (length bytes ≤ limit) × Reads bytes x
 abbrev pub IsSpelled : Wanted → List ℕ → Input → Type 0
 IsSpelled nothing bytes unread = Unit {0}
 IsSpelled an_order bytes (order given) = IsGiven (limit_of an_order) ReadsOrder bytes given
+IsSpelled a_covering bytes (covering given) = IsGiven (limit_of a_covering) ReadsCovering bytes given
 IsSpelled wanted bytes input = ⊥
 
 -- the input of a run whose source had these bytes left, where it told them

@@ -1,4 +1,4 @@
--- The lines that say why an input is no order.
+-- The lines that say why an input is no order, or no covering.
 use Rattle.std.specs.Prelude.{ℕ, List, [], ◌++◌, codes, decimal}
 use Rattle.exact_json.specs.declared.fault.JsonFault.{JsonFault}
 use Rattle.exact_json.specs.declared.fault.JsonFault.TheVariants.{NotJson, TooDeep, LongNumber, NoMemory}
@@ -43,3 +43,13 @@ refusal_line fault = codes "order refused " ++ (detail_of fault ++ codes "\n")
 -- of an input with more bytes than an order may have
 unfoldable pub long_line : List ℕ
 long_line = codes "order refused 8 long\n"
+
+-- ---- of a covering
+
+-- of its first line, which is to spell an order
+unfoldable pub covering_line : OrderFault → List ℕ
+covering_line fault = codes "cover refused line 1 order " ++ (detail_of fault ++ codes "\n")
+
+-- of more bytes than a covering may have
+unfoldable pub long_covering : List ℕ
+long_covering = codes "cover refused long\n"

@@ -1,37 +1,64 @@
--- What reading an order from a source said.
-use Rattle.std.specs.Prelude.{◌≡◌, ◌≢◌, ◌⊎◌, ◌≤◌, Result, Ok, Err, string_bytes}
-use Rattle.command_input.specs.Input.{Given, IsSpelledBy, an_order, limit_of, order, read, too_long}
-use Rattle.command_input.specs.Refusals.{long_line, refusal_line}
-use Rattle.order_reader.specs.Asked.{Asked, asked_of}
+-- What reading an input from a source said.
+use Rattle.std.specs.Prelude.{◌≡◌, ◌≢◌, ◌⊎◌, ◌≤◌, List, ℕ, drop, Result, Ok, Err, string_bytes}
+use Rattle.command_input.specs.Input.{Covered, Given, Input, IsSpelledBy, Wanted, a_covering, an_order, covering, limit_of, order, read, too_long}
+use Rattle.command_input.specs.Refusals.{covering_line, long_covering, long_line, refusal_line}
+use Rattle.command_input.specs.declared.covering.Covering.{Covering}
+use Rattle.order_reader.specs.Asked.{asked_of}
 use Rattle.order_reader.specs.declared.order.Order.{Order}
 use Rattle.order_reader.specs.declared.fault.OrderFault.{OrderFault}
 use Rattle.order_reader.specs.declared.fault.OrderFault.TheVariants.{NoMemory as OrderNoMemory}
 use Rattle.outcome.specs.Streams.{Stream}
 use Rattle.outcome.specs.declared.ending.Ending.{Ending}
 use Rattle.outcome.specs.declared.ending.Ending.TheVariants.{Plain, Refused}
-use Rattle.outcome.specs.declared.status.Status.TheVariants.{NoMemory, OrderRefused, ReadFault}
+use Rattle.outcome.specs.declared.status.Status.{Status}
+use Rattle.outcome.specs.declared.status.Status.TheVariants.{CoverRefused, NoMemory, OrderRefused, ReadFault}
 use Rattle.source_sink.specs.Outside.{Rose}
 use Rattle.source_sink.specs.Reading.{GivesWithin, IsReadToEnd}
 
--- the ending of an order's first refusal, or want of memory
-abbrev pub IsRefusalOf : OrderFault → Ending → Type 0
-IsRefusalOf fault (Plain status) = status ≡ NoMemory
-IsRefusalOf fault (Refused status line) =
-    (status ≡ OrderRefused) × (string_bytes line ≡ refusal_line fault) × (fault ≢ OrderNoMemory)
+-- how a kind of input is refused: the status, and the lines of too many bytes and of a first refusal
+pub record Refusing : Type 0 where
+  pub status : Status
+  pub long : List ℕ
+  pub line : OrderFault → List ℕ
 
--- the order that was read, or a fault, or the line that refuses the input
-abbrev pub ReadCase : Given (Result Asked OrderFault) → Result Order Ending → Stream → Stream → Type 0
-ReadCase given (Ok o) source source' = (given ≡ read (Ok (asked_of o))) × IsReadToEnd source.bytes source'.bytes
-ReadCase given (Err (Plain status)) source source' = (status ≡ NoMemory) ⊎ ((status ≡ ReadFault) × Rose source.faults source'.faults)
-ReadCase too_long (Err (Refused status line)) source source' = (status ≡ OrderRefused) × (string_bytes line ≡ long_line)
-ReadCase (read (Err fault)) (Err (Refused status line)) source source' =
-    (status ≡ OrderRefused) × (string_bytes line ≡ refusal_line fault) × IsReadToEnd source.bytes source'.bytes
-ReadCase (read (Ok o)) (Err (Refused status line)) source source' = ⊥
+abbrev pub of_orders : Refusing
+of_orders = record { status = OrderRefused; long = long_line; line = refusal_line }
 
--- the source spelled an input, and this is what was said of it
-pub record IsReadAs (source source' : Stream) (result : Result Order Ending) : Type 0 where
-  pub given : Given (Result Asked OrderFault)
-  pub spelled : IsSpelledBy an_order source.bytes (order given)
-  pub case : ReadCase given result source source'
-  pub within : GivesWithin (limit_of an_order) source.bytes source'.bytes
+abbrev pub of_coverings : Refusing
+of_coverings = record { status = CoverRefused; long = long_covering; line = covering_line }
+
+-- the ending of a first refusal, or want of memory
+abbrev pub IsRefusalOf : Refusing → OrderFault → Ending → Type 0
+IsRefusalOf how fault (Plain status) = status ≡ NoMemory
+IsRefusalOf how fault (Refused status line) =
+    (status ≡ how.status) × (string_bytes line ≡ how.line fault) × (fault ≢ OrderNoMemory)
+
+-- what was read, or a fault, or the line that refuses the input
+abbrev pub ReadCase : {X A : Type 0} → Refusing → (X → A) → Given (Result A OrderFault) → Result X Ending → Stream → Stream → Type 0
+ReadCase how view given (Ok x) source source' = (given ≡ read (Ok (view x))) × IsReadToEnd source.bytes source'.bytes
+ReadCase how view given (Err (Plain status)) source source' =
+    (status ≡ NoMemory) ⊎ ((status ≡ ReadFault) × Rose source.faults source'.faults)
+ReadCase how view too_long (Err (Refused status line)) source source' = (status ≡ how.status) × (string_bytes line ≡ how.long)
+ReadCase how view (read (Err fault)) (Err (Refused status line)) source source' =
+    (status ≡ how.status) × (string_bytes line ≡ how.line fault) × IsReadToEnd source.bytes source'.bytes
+ReadCase how view (read (Ok a)) (Err (Refused status line)) source source' = ⊥
+
+-- the source spelled an input of this kind, and this is what was said of it
+pub record IsTakenAs {X A : Type 0} (wanted : Wanted) (input : Given (Result A OrderFault) → Input) (how : Refusing) (view : X → A)
+    (source source' : Stream) (result : Result X Ending) : Type 0 where
+  pub given : Given (Result A OrderFault)
+  pub spelled : IsSpelledBy wanted source.bytes (input given)
+  pub case : ReadCase how view given result source source'
+  pub within : GivesWithin (limit_of wanted) source.bytes source'.bytes
   pub later : source.faults ≤ source'.faults
+
+-- an order
+abbrev pub IsReadAs : Stream → Stream → Result Order Ending → Type 0
+IsReadAs source source' result = IsTakenAs an_order order of_orders asked_of source source' result
+
+-- a covering, as the code keeps it
+abbrev pub covered_of : Covering → Covered
+covered_of c = record { order = asked_of c.order; lines = drop c.from c.text.items }
+
+abbrev pub IsCoveringReadAs : Stream → Stream → Result Covering Ending → Type 0
+IsCoveringReadAs source source' result = IsTakenAs a_covering covering of_coverings covered_of source source' result

@@ -2,8 +2,14 @@
 // Contract: the input that the source's bytes spell, or the line that refuses it, and what the source has left.
 #![tactic(auto)]
 
+mod covering;
+mod covering_input;
 pub mod laws;
+mod lines;
 mod order;
 mod refusals;
 
+pub use covering::Covering;
+pub use covering_input::covering_from;
+pub use lines::split_line;
 pub use order::order_from;

@@ -2,7 +2,7 @@
 ghost use Rattle.outcome.specs.Endings.{IsRefusedBy};
 ghost use Rattle.outcome.specs.Streams.{stream};
 ghost use Rattle.command_input.specs.Refusals.{long_line};
-ghost use Rattle.command_input.specs.Taken.{IsReadAs, IsRefusalOf};
+ghost use Rattle.command_input.specs.Taken.{IsReadAs, IsRefusalOf, of_orders};
 
 use crate::refusals::refusal_line;
 use order_reader::{Order, OrderFault, read_order};
@@ -15,7 +15,7 @@ const ORDER_LIMIT: usize = 16_777_216;
 
 /// How a run ends whose input is no order.
 fn refused(alloc: Global, fault: OrderFault) -> Ending
-    ensures { IsRefusalOf fault result }
+    ensures { IsRefusalOf of_orders fault result }
 {
     if let OrderFault::NoMemory = fault {
         return Ending::Plain(Status::NoMemory);

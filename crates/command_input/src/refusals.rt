@@ -1,6 +1,6 @@
-// The lines that say why an input is no order.
+// The lines that say why an input is no order, or no covering.
 ghost use Rattle.std.specs.Prelude.{◌≡◌, IfOk, string_bytes};
-ghost use Rattle.command_input.specs.Refusals.{json_detail, region_detail, detail_of, refusal_line};
+ghost use Rattle.command_input.specs.Refusals.{covering_line, json_detail, region_detail, detail_of, refusal_line};
 
 use exact_json::JsonFault;
 use order_reader::{OrderFault, member_word};
@@ -69,4 +69,13 @@ pub(crate) fn refusal_line(alloc: Global, fault: OrderFault) -> Result<String, A
 {
     let detail = detail(alloc, fault)?;
     format!(in alloc; "order refused {detail}\n")
+}
+
+/// The line for the first refusal of a covering's first line.
+#[tactic(auto, unfolding(crate::specs::Refusals::covering_line))]
+pub(crate) fn covering_line(alloc: Global, fault: OrderFault) -> Result<String, AllocError>
+    ensures { IfOk result (λ text. string_bytes text ≡ covering_line fault) }
+{
+    let detail = detail(alloc, fault)?;
+    format!(in alloc; "cover refused line 1 order {detail}\n")
 }

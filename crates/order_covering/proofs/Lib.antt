@@ -1,0 +1,4 @@
+pub mod DateLemmas
+pub mod Pieces
+pub mod Renumbered
+pub mod CoveringLemmas

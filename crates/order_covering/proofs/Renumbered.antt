@@ -1,0 +1,98 @@
+-- What is settled of a tree doesn't depend on the number of its problem.
+use Rattle.std.proofs.Common.{◌≡◌, ℕ, zero, suc, ◌+◌, ◌*◌, ◌<◌, ◌≤◌, Bool, true, false, cond, ltb, List, [], ◌∷◌, ◌++◌, length, map, find, get_or, Option, Some, Result, Ok, Err, refl, sym, ap, ◌∙◌, arith}
+use Rattle.std.specs.Prelude.{IfOk, ◌==◌, ◌&&◌}
+use Rattle.std.specs.List.{flat_map}
+use Rattle.std.specs.Option.{option_and_then, option_to_list}
+use Rattle.solar_terms.specs.Sun.{grid_sun}
+use Rattle.method_table.specs.Row.{Row}
+use Rattle.region.specs.Rings.{Polygon}
+use Rattle.cell_split.specs.declared.cell.Cell.{Cell}
+use Rattle.cell_split.specs.declared.verdict.Leaf.{Leaf}
+use Rattle.cell_split.specs.declared.verdict.Verdict.{Verdict}
+use Rattle.cell_split.specs.Cells.{IsCellOf, IsRoot}
+use Rattle.cell_split.specs.Entries.{last_word}
+use Rattle.cell_split.specs.Judges.{Content, IsLawful}
+use Rattle.cell_split.specs.Laws.{IsChildOf}
+use Rattle.cell_split.specs.Renumbered.{AnswersAs, renumbered}
+use Rattle.cell_split.specs.Split.{children_of}
+use Rattle.cell_split.specs.Tree.{child_tasks, levels, root_task, task_of}
+use Rattle.cell_split.specs.Verdicts.{is_refuted, is_split}
+use Rattle.cell_split.proofs.Every.{Every, Every-weaker, flat_map-map, flat_map_same}
+use Rattle.cell_split.proofs.LeafLemmas.{children_are, root_in_itself}
+use Rattle.cell_split.proofs.Renumbering.{renumbered_trees}
+use Rattle.cell_judge.specs.Lawful.{skies_are_lawful}
+use Rattle.cell_judge.specs.Skies.{row_at, sky_content, verdict_on}
+use Rattle.covering.specs.declared.settled.Settled.{Settled}
+use Rattle.covering.specs.Letters.{cut, letter_of, letters_of}
+use Rattle.covering.specs.Refuted.{first_refuted, rank_of, refuted_at}
+use Rattle.covering.specs.Settles.{IsSettled, leaves_of, refuted_word_of}
+use Rattle.covering.proofs.Spelling.{letters-step}
+use Rattle.days_sky.specs.Days.{all_rows, days_content}
+use Rattle.days_sky.proofs.DayLemmas.{row_of_day}
+
+-- the letters of a task with this verdict, whose children have these
+abbrev lettered : ℕ → Cell → List ℕ → Verdict → List ℕ
+lettered word cell below v =
+    cond (ltb cell.last word) (cut ∷ []) (option_to_list (letter_of v) ++ cond (is_split v) below [])
+
+-- the letters below a cell
+letters_below : (c other : Content) (j k word : ℕ) → AnswersAs c j other k → (n : ℕ) (cell : Cell) → levels cell ≤ n → IsCellOf other.root cell →
+    letters_of c word (task_of j cell) ≡ letters_of other word (task_of k cell)
+letters_below c other j k word answers zero cell small is = absurd (omega arith)
+letters_below c other j k word answers (suc n) cell small is =
+    let below : flat_map (letters_of c word) (child_tasks (task_of j cell)) ≡ flat_map (letters_of other word) (child_tasks (task_of k cell)) =
+    flat_map-map (letters_of c word) (task_of j) (children_of cell)
+    ∙ (flat_map_same (λ d. letters_of c word (task_of j d)) (λ d. letters_of other word (task_of k d)) (children_of cell)
+    (Every-weaker (IsChildOf other.root cell) (λ d. letters_of c word (task_of j d) ≡ letters_of other word (task_of k d)) (children_of cell)
+    (λ d h. letters_below c other j k word answers n d (omega (arith, h.falls)) h.is_cell) (children_are other.root cell is))
+    ∙ sym (flat_map-map (letters_of other word) (task_of k) (children_of cell))) in
+    letters-step c word (task_of j cell)
+    ∙ (ap (lettered word cell (flat_map (letters_of c word) (child_tasks (task_of j cell)))) (answers.same_verdicts cell is)
+    ∙ (ap (λ bs. lettered word cell bs (other.verdict (task_of k cell))) below
+    ∙ sym (letters-step other word (task_of k cell))))
+
+-- the first refuted leaf
+refuted_choice : (b : Bool) (j : ℕ) (l : Leaf) (o p : Option Leaf) → option_and_then refuted_at o ≡ option_and_then refuted_at p →
+    option_and_then refuted_at (cond b (Some (renumbered j l)) o) ≡ option_and_then refuted_at (cond b (Some l) p)
+refuted_choice true j l o p h = refl
+refuted_choice false j l o p h = h
+
+refuted_same : (j word : ℕ) (ls : List Leaf) → first_refuted word (map (renumbered j) ls) ≡ first_refuted word ls
+refuted_same j word [] = refl
+refuted_same j word (l ∷ ls) =
+    refuted_choice (is_refuted l.verdict && (last_word l == word)) j l (find (λ m. is_refuted m.verdict && (last_word m == word)) (map (renumbered j) ls))
+    (find (λ m. is_refuted m.verdict && (last_word m == word)) ls) (refuted_same j word ls)
+
+pub settled_as : (c other : Content) → IsLawful other → (j k : ℕ) → AnswersAs c j other k → (s : Settled) → IsSettled c j s → IsSettled other k s
+settled_as c other law j k answers s is =
+    let tree = renumbered_trees c other law j k answers in
+    let word = refuted_word_of other k in
+    let letters : letters_of c word (root_task c j) ≡ letters_of other word (root_task other k) =
+    ap (λ (root : Cell). letters_of c word (task_of j root)) answers.same_root
+    ∙ letters_below c other j k word answers (levels other.root) other.root (omega arith) (root_in_itself other law) in
+    record {
+      entry = is.entry ∙ tree.same_entry;
+      rank = is.rank ∙ ap rank_of tree.same_refuted;
+      letters = is.letters ∙ ap (λ (w : ℕ). letters_of c w (root_task c j)) tree.same_refuted ∙ letters;
+      refuted = is.refuted ∙ ap (λ (w : ℕ). first_refuted w (leaves_of c j)) tree.same_refuted ∙ ap (first_refuted word) tree.same_leaves
+          ∙ refuted_same j word (leaves_of other k);
+    }
+
+-- problem 7 i + k of several days is settled as problem k of day i's own sky
+pub own_settled : (polygons : List Polygon) (root : Cell) → IsRoot root → (days : List (List Row)) → Every (λ rows. length rows ≡ 7) days →
+    (i : ℕ) (rows : List Row) → i < length days → get_or days i rows ≡ rows → (k : ℕ) → k < 7 → (s : Settled) →
+    IsSettled (days_content polygons days root) (7 * i + k) s → IsSettled (sky_content polygons rows root) k s
+own_settled polygons root is days each i rows inside own k known s settled =
+    let day : row_at (all_rows days) (7 * i + k) ≡ row_at rows k =
+    row_of_day days i k rows _ each inside known ∙ ap (λ (l : List Row). row_at l k) own in
+    settled_as (days_content polygons days root) (sky_content polygons rows root) (skies_are_lawful polygons rows root is) (7 * i + k) k (record {
+      same_root = refl;
+      same_verdicts = λ cell in'. ap (λ (row : Row). verdict_on grid_sun row polygons cell) day;
+    }) s settled
+
+pub own_settled_if : {E : Type 0} (polygons : List Polygon) (root : Cell) → IsRoot root → (days : List (List Row)) → Every (λ rows. length rows ≡ 7) days →
+    (i : ℕ) (rows : List Row) → i < length days → get_or days i rows ≡ rows → (k : ℕ) → k < 7 → (r : Result Settled E) →
+    IfOk r (IsSettled (days_content polygons days root) (7 * i + k)) → IfOk r (IsSettled (sky_content polygons rows root) k)
+own_settled_if polygons root is days each i rows inside own k known (Ok s) settled =
+    own_settled polygons root is days each i rows inside own k known s settled
+own_settled_if polygons root is days each i rows inside own k known (Err e) settled = tt

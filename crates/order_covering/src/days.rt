@@ -1,0 +1,155 @@
+// The covering of an order, searched some days at a time and written line by line.
+ghost use Rattle.std.specs.Prelude.{◌≡◌, ◌*◌, ◌≤◌, flat_map, length, map, IfOk};
+ghost use Rattle.days_sky.specs.Days.{days_content, rows_of_day};
+ghost use Rattle.order_covering.specs.Covering.{covering_of};
+ghost use Rattle.order_covering.specs.Made.{rows_of, written};
+ghost use Rattle.order_reader.specs.Asked.{asked_of};
+ghost use Rattle.order_table.specs.Made.{searched};
+ghost use Rattle.order_table.specs.Table.{days_undecided};
+ghost use Rattle.order_table.specs.Trees.{undecided};
+ghost use Rattle.outcome.specs.Writing.{Writes};
+ghost use Rattle.steal_pool.specs.Harvests.{IsHarvest};
+
+use crate::day::write_day;
+use crate::form::Form;
+use cell_judge::Sky;
+use days_sky::DaysSky;
+use no_memory::NoMemory;
+use order_reader::{Order, order_line};
+use order_table::{Day, prepare};
+use outcome::Stop;
+use source_sink::{Sink, write_all};
+use std::alloc::Global;
+use std::sync::Wait;
+use std::thread::Threads;
+use steal_pool::{Gate, Harvest, search};
+
+/// How many days one search is over: enough for its workers, few enough for its leaves.
+const DAYS_AT_ONCE: usize = 8;
+
+/// The days with what the judge of several days keeps of each.
+fn days_of_sky(alloc: Global, days: &[Day]) -> Result<Vec<days_sky::Day>, NoMemory>
+    ensures { IfOk result (λ made. map rows_of_day made.items ≡ map rows_of days.now) }
+{
+    let mut made = Vec::new(alloc);
+    for day in days {
+        made.push(days_sky::Day::new(day.problems))?;
+    }
+    Ok(made)
+}
+
+/// Writes the lines of days from their search; answers how many of their entries are undecided.
+fn write_found<K: Sink>(
+    alloc: Global,
+    judge: &DaysSky<'_>,
+    harvest: &Harvest,
+    days: &[Day],
+    form: Form,
+    out: &mut K,
+) -> Result<u32, Stop>
+    requires harvest { IsHarvest (days_content judge.now.sky.now.district (map rows_of_day judge.now.days.now) judge.now.sky.now.root) harvest.now.refuted harvest.now.leaves }
+    requires days { map rows_of_day judge.now.days.now ≡ map rows_of days.now }
+    requires few { length days.now ≤ 366 }
+    ensures writes { Writes (flat_map (written form judge.now.sky.now.district judge.now.sky.now.root) days.now) result
+        (K.faults out.old) (K.faults out.new) (K.held out.old) (K.held out.new) }
+    ensures count { IfOk result (λ count. count ≡ days_undecided (map (searched judge.now.sky.now.district judge.now.sky.now.root) days.now)) }
+    ensures few { IfOk result (λ count. count ≤ 7 * length days.now) }
+{
+    let mut undecided = 0;
+    for (i, day) in days.iter().enumerate() {
+        match write_day(alloc, judge, harvest, i, day, form, out) {
+            Ok(count) => undecided += count,
+            Err(stop) => return Err(stop),
+        }
+    }
+    Ok(undecided)
+}
+
+/// Searches days at once and writes their lines; answers how many of their entries are undecided.
+fn write_some<R: Threads + Wait + Sync, K: Sink, G: Gate + Sync>(
+    rt: &R,
+    alloc: Global,
+    sky: &Sky,
+    days: &[Day],
+    workers: u32,
+    form: Form,
+    gate: &G,
+    out: &mut K,
+) -> Result<u32, Stop>
+    requires short { length days.now ≤ 366 }
+    requires some { 1 ≤ workers }
+    requires few { workers ≤ 16 }
+    ensures writes { Writes (flat_map (written form sky.now.district sky.now.root) days.now) result
+        (K.faults out.old) (K.faults out.new) (K.held out.old) (K.held out.new) }
+    ensures count { IfOk result (λ count. count ≡ days_undecided (map (searched sky.now.district sky.now.root) days.now)) }
+    ensures few { IfOk result (λ count. count ≤ 7 * length days.now) }
+{
+    let Ok(made) = days_of_sky(alloc, days) else {
+        return Err(Stop::NoMemory);
+    };
+    let judge = DaysSky::new(sky, &made);
+    let Ok(harvest) = search(rt, alloc, &judge, workers, gate) else {
+        return Err(Stop::NoMemory);
+    };
+    write_found(alloc, &judge, &harvest, days, form, out)
+}
+
+/// Searches all days, some at a time, and writes their lines; answers how many of their entries are undecided.
+fn write_days<R: Threads + Wait + Sync, K: Sink, G: Gate + Sync>(
+    rt: &R,
+    alloc: Global,
+    sky: &Sky,
+    days: &[Day],
+    workers: u32,
+    form: Form,
+    gate: &G,
+    out: &mut K,
+) -> Result<u32, Stop>
+    requires short { length days.now ≤ 366 }
+    requires some { 1 ≤ workers }
+    requires few { workers ≤ 16 }
+    ensures writes { Writes (flat_map (written form sky.now.district sky.now.root) days.now) result
+        (K.faults out.old) (K.faults out.new) (K.held out.old) (K.held out.new) }
+    ensures count { IfOk result (λ count. count ≡ days_undecided (map (searched sky.now.district sky.now.root) days.now)) }
+{
+    let mut undecided = 0;
+    let mut at = 0;
+    while at < days.len() {
+        let end = days.len().min(at + DAYS_AT_ONCE);
+        match write_some(rt, alloc, sky, &days[at..end], workers, form, gate, out) {
+            Ok(count) => undecided += count,
+            Err(stop) => return Err(stop),
+        }
+        at = end;
+    }
+    Ok(undecided)
+}
+
+/// Writes the covering of an order, whose days 1 to 16 workers search; answers how many entries of the
+/// order's table are undecided. It takes memory for what one search of eight days keeps, and for a line.
+pub fn write_covering<R: Threads + Wait + Sync, K: Sink, G: Gate + Sync>(
+    rt: &R,
+    alloc: Global,
+    order: Order,
+    workers: u32,
+    form: Form,
+    gate: &G,
+    out: &mut K,
+) -> Result<u32, Stop>
+    requires some { 1 ≤ workers }
+    requires few { workers ≤ 16 }
+    ensures writes { Writes (covering_of form (asked_of order)) result
+        (K.faults out.old) (K.faults out.new) (K.held out.old) (K.held out.new) }
+    ensures count { IfOk result (λ count. count ≡ undecided (asked_of order)) }
+{
+    let Ok(line) = order_line(alloc, &order) else {
+        return Err(Stop::NoMemory);
+    };
+    let Ok(ready) = prepare(alloc, order) else {
+        return Err(Stop::NoMemory);
+    };
+    match write_all(out, &line) {
+        Ok(()) => write_days(rt, alloc, &ready.sky, &ready.days, workers, form, gate, out),
+        Err(_) => Err(Stop::WriteFault),
+    }
+}
