@@ -22,7 +22,7 @@ number_of CoverRefused = 7
 -- the line on the error stream of a status that says no more than its name
 unfoldable pub line_of_status : Status → List ℕ
 line_of_status Usage =
-    codes "usage: timetable table|cover [--workers W] | demo [--number M] [--workers W] | plain | check | order | sun MINUTE LON LAT WHAT\n"
+    codes "usage: timetable table [--workers W] | cover [--workers W] [--form F] | demo [--number M] [--workers W] | plain | check | order | sun MINUTE LON LAT WHAT\n"
 line_of_status ReadFault = codes "read fault\n"
 line_of_status WriteFault = codes "write fault\n"
 line_of_status NoMemory = codes "no memory\n"

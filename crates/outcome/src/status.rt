@@ -38,7 +38,7 @@ impl Status {
     {
         match self {
             Status::Usage => {
-                "usage: timetable table|cover [--workers W] | demo [--number M] [--workers W] | plain | check | order | sun MINUTE LON LAT WHAT\n"
+                "usage: timetable table [--workers W] | cover [--workers W] [--form F] | demo [--number M] [--workers W] | plain | check | order | sun MINUTE LON LAT WHAT\n"
             }
             Status::ReadFault => "read fault\n",
             Status::WriteFault => "write fault\n",

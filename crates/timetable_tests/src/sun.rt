@@ -6,7 +6,7 @@ use timetable::Status;
 const LINE: &str = "minute 0 lon 0.000000 lat 0.000000 angle 0.000000 above\n";
 
 const USAGE: &str =
-    "usage: timetable table|cover [--workers W] | demo [--number M] [--workers W] | plain | check | order | sun MINUTE LON LAT WHAT\n";
+    "usage: timetable table [--workers W] | cover [--workers W] [--form F] | demo [--number M] [--workers W] | plain | check | order | sun MINUTE LON LAT WHAT\n";
 
 const WRONG_WORDS: [&str; 36] = [
     "",
