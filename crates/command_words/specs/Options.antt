@@ -19,9 +19,19 @@ option_rule name = record (new_rule name) { long = Some name; action = Some Set 
 abbrev pub app_with_1 : List ℕ → List ℕ → App
 app_with_1 name option = with_rule (plain_app name) (option_rule option)
 
+-- with two options
+abbrev pub app_with_2 : List ℕ → List ℕ → List ℕ → App
+app_with_2 name first second = with_rule (app_with_1 name first) (option_rule second)
+
 -- the commands that have options
 abbrev pub table_app : App
 table_app = app_with_1 (codes "table") (codes "workers")
+
+abbrev pub cover_app : App
+cover_app = app_with_2 (codes "cover") (codes "workers") (codes "form")
+
+abbrev pub demo_app : App
+demo_app = app_with_2 (codes "demo") (codes "number") (codes "workers")
 
 -- what `clap` makes of the words: none where it refuses them
 abbrev pub IsReadBy : App → List (List ℕ) → Option ArgMatches → Type 0

@@ -1,4 +1,5 @@
 // What the words behind the program's name ask for.
+use order_covering::Form;
 use sun_verdict::Request;
 
 /// What the words behind the program's name ask for.
@@ -14,6 +15,22 @@ pub enum Command {
     Plain,
     /// `table`.
     Table {
+        /// How many workers search, from 1 to 16.
+        workers: u32,
+    },
+    /// `cover`.
+    Cover {
+        /// How many workers search, from 1 to 16.
+        workers: u32,
+        /// How the letters are spelled.
+        form: Form,
+    },
+    /// `check`.
+    Check,
+    /// `demo`.
+    Demo {
+        /// The number of the order that is made.
+        number: u32,
         /// How many workers search, from 1 to 16.
         workers: u32,
     },

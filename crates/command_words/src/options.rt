@@ -3,7 +3,7 @@ ghost use Rattle.std.specs.Prelude.{◌≡◌, IfOk, false, true, map, string_by
 ghost use Rattle.clap.specs.Faults.{is_simple_and_free};
 ghost use Rattle.clap.specs.Simple.{app_of, is_simple};
 ghost use Rattle.clap.specs.Walk.{rule_of};
-ghost use Rattle.command_words.specs.Options.{IsReadBy, option_rule, plain_app, table_app};
+ghost use Rattle.command_words.specs.Options.{IsReadBy, cover_app, demo_app, option_rule, plain_app, table_app};
 
 use clap::error::ErrorKind;
 use clap::{Arg, ArgAction, ArgMatches, Command};
@@ -32,6 +32,24 @@ pub(crate) fn table_options<'a>(alloc: Global) -> Result<Command<'a>, AllocError
     ensures { IfOk result (λ c. app_of c ≡ table_app) }
 {
     plain(alloc, "table").arg(option(alloc, "workers"))
+}
+
+/// `cover [--workers W] [--form F]`.
+pub(crate) fn cover_options<'a>(alloc: Global) -> Result<Command<'a>, AllocError>
+    ensures { IfOk result (λ c. app_of c ≡ cover_app) }
+{
+    plain(alloc, "cover")
+        .arg(option(alloc, "workers"))?
+        .arg(option(alloc, "form"))
+}
+
+/// `demo [--number M] [--workers W]`.
+pub(crate) fn demo_options<'a>(alloc: Global) -> Result<Command<'a>, AllocError>
+    ensures { IfOk result (λ c. app_of c ≡ demo_app) }
+{
+    plain(alloc, "demo")
+        .arg(option(alloc, "number"))?
+        .arg(option(alloc, "workers"))
 }
 
 /// The texts of a simple command's options; none where `clap` refuses the words.
