@@ -1,6 +1,5 @@
-use Rattle.std.proofs.Common.{◌<◌, ◌/◌, length, map, refl, arith}
+use Rattle.std.proofs.Common.{◌<◌, ◌/◌, length, map, arith}
 use Rattle.std.proofs.lemmas.List.{length-map}
-use Rattle.cell_split.specs.Split.{children_of}
 use Rattle.days_sky.specs.Days.{rows_of_day}
 use Rattle.days_sky.proofs.DayLemmas.{count_of_rows, quarters_judged, whole_days}
 use Rattle.days_sky.proofs.sky.DaysSkyJudge.judge_quarters.Goals as goal
