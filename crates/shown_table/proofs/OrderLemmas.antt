@@ -1,0 +1,110 @@
+-- Each entry that a covering of an order shows is right.
+use Rattle.std.proofs.Common.{◌≡◌, ℕ, ◌<◌, ◌≤◌, List, [], ◌∷◌, length, Option, Some, None, Result, Ok, Err, refl, ◌∙◌, arith}
+use Rattle.std.specs.Prelude.{ℤ, pos, ◌+ℤ◌, ◌≤ℤ◌, All}
+use Rattle.std.specs.List.{AllByRecursion as Every}
+use Rattle.std.proofs.lemmas.Int.{ints}
+use Rattle.std.proofs.lemmas.List.Elements.{All-from_recursion, recursion_from_All}
+use Rattle.method_table.specs.Table.{noon_of}
+use Rattle.region.specs.Extent.{greatest, least, longitudes}
+use Rattle.region.specs.Faults.{first_fault}
+use Rattle.cell_split.proofs.Every.{Every-weaker}
+use Rattle.cell_judge.specs.Skies.{row_at}
+use Rattle.cell_judge.specs.SkyLaws.{IsRow}
+use Rattle.cell_judge.proofs.DayLaws.{days_have_rows}
+use Rattle.cell_judge.proofs.EntryLaws.{lies_in_root}
+use Rattle.order_reader.proofs.EachLemmas.{each_length}
+use Rattle.order_reader.proofs.OffsetLemmas.{days_length, offsets_in_range}
+use Rattle.order_reader.specs.Asked.{Asked, asked_of}
+use Rattle.order_reader.specs.Late.{interval_on}
+use Rattle.order_reader.specs.Offsets.{IsOffset, first_day, last_day, offsets_of, days_from as order_days}
+use Rattle.order_reader.specs.Rule.{IsOrder}
+use Rattle.order_reader.specs.declared.order.Order.{Order}
+use Rattle.order_table.specs.Days.{day_with, days_from, days_of, rows_on}
+use Rattle.order_table.specs.RightTable.{IsRightDay, scene_of}
+use Rattle.order_table.specs.Trees.{root_over}
+use Rattle.order_table.proofs.DayLemmas.{is_day, root_is_root}
+use Rattle.year_table.specs.Zones.{day_offset}
+use Rattle.shown_table.specs.declared.bad.BadLine.{BadLine}
+use Rattle.shown_table.specs.Right.{IsRightShown, ShownTablesAreRight}
+use Rattle.shown_table.specs.Shown.{bad_line, last_number, shown_at, shown_days, shown_table}
+use Rattle.shown_table.proofs.RightLemmas.{IsFit, day_is_right, line_is_right}
+use Rattle.shown_table.proofs.ShowingLemmas.{IsWeekly, all_days, each_day, first_days}
+
+fit_day : (o : Asked) (day offset : ℤ) → first_fault o.district ≡ None → o.height ≤ 9000 → first_day ≤ℤ day → day ≤ℤ last_day → IsOffset offset →
+    IsFit o.sun o.district (root_over o.district) (day_with o day offset)
+unfolding rows_on shown_at
+fit_day o day offset faultless low early late range =
+    let noon = noon_of (least (longitudes o.district)) (greatest (longitudes o.district)) offset in
+    let rows = rows_on o day offset in
+    let is_row : (k : ℕ) → k < 7 → IsRow (row_at rows k) =
+    days_have_rows o.method o.asr day offset noon o.height (interval_on o.late day) (is_day o day offset early late range low) in
+    record {
+      weekly = refl;
+      right = λ k known line e shown.
+          line_is_right o.sun o.district (root_over o.district) rows k faultless (root_is_root o.district faultless)
+          (lies_in_root (scene_of o.sun o.district (row_at rows k)) faultless) known (is_row k known) _ _ line e shown;
+    }
+
+fit_days : (o : Asked) → first_fault o.district ≡ None → o.height ≤ 9000 → (day : ℤ) (offsets : List ℤ) → Every IsOffset offsets →
+    first_day ≤ℤ day → (day +ℤ pos (length offsets)) ≤ℤ (last_day +ℤ pos 1) →
+    Every (IsFit o.sun o.district (root_over o.district)) (days_from o day offsets)
+fit_days o faultless low day [] each early late = tt
+fit_days o faultless low day (offset ∷ rest) each early late = (
+  fit_day o day offset faultless low early (omega (arith, ints, late)) each.0,
+  fit_days o faultless low (day +ℤ pos 1) rest each.1 (omega (arith, ints, early)) (omega (arith, ints, late)),
+)
+
+one_each : (o : Asked) → IsOrder o → length o.offsets ≡ o.days
+unfolding offsets_of
+one_each o is = each_length (day_offset o.zone) (order_days o.from_day o.days) o.offsets is.offset_each ∙ days_length o.from_day o.days
+
+in_range : (o : Asked) → IsOrder o → All IsOffset o.offsets
+unfolding offsets_of
+in_range o is = offsets_in_range o.zone (order_days o.from_day o.days) o.offsets is.offset_each
+
+all_fit : (o : Asked) → IsOrder o → Every (IsFit o.sun o.district (root_over o.district)) (days_of o)
+all_fit o is =
+    fit_days o is.sound is.low o.from_day o.offsets (recursion_from_All IsOffset o.offsets (in_range o is)) is.not_early (rw (one_each o is) is.not_late)
+
+some_no_none : (bad : BadLine) {o : Option BadLine} → o ≡ None → o ≡ Some bad → ⊥
+some_no_none bad is other = cc
+
+-- no line is bad where all were shown and nothing is left
+none_bad : (number : ℕ) (end : Result (List ℕ) BadLine) → bad_line number end ≡ None → end ≡ Ok []
+none_bad number (Ok []) h = refl
+none_bad number (Ok (byte ∷ bytes)) h = absurd (some_no_none _ h refl)
+none_bad number (Err bad) h = absurd (some_no_none bad h refl)
+
+pub shown_tables_are_right : ShownTablesAreRight
+unfolding shown_table
+shown_tables_are_right o is lines =
+    let root = root_over o.district in
+    let fit = all_fit o is in
+    let weekly = Every-weaker (IsFit o.sun o.district root) IsWeekly (days_of o) (λ day f. f.weekly) fit in
+    let right = All-from_recursion (IsRightDay o.sun o.district root) (shown_days o lines).days
+    (each_day o.sun o.district root (IsRightDay o.sun o.district root) (days_of o)
+    (Every-weaker (IsFit o.sun o.district root) _ (days_of o) (λ day f. day_is_right o.sun o.district root day f) fit) 2 lines) in
+    record {
+      first = first_days o.sun o.district root (days_of o) weekly 2 lines;
+      right = right;
+      whole = λ none. record {
+        whole = all_days o.sun o.district root (days_of o) weekly 2 lines [] (none_bad (last_number o) (shown_days o lines).end none);
+        right = right;
+      };
+    }
+
+pub order_is_shown : (o : Order) (lines : List ℕ) → IsRightShown (asked_of o) (shown_table (asked_of o) lines)
+order_is_shown o lines =
+    shown_tables_are_right (asked_of o)
+    (record {
+      not_early = o.not_early;
+      not_late = o.not_late;
+      some_days = o.some_days;
+      few_days = o.few_days;
+      known_zone = o.known_zone;
+      offset_each = o.offset_each;
+      low = o.low;
+      late_in_range = o.late_in_range;
+      known_sun = o.known_sun;
+      sound = o.sound;
+    }) lines

@@ -1,0 +1,4 @@
+pub mod Shown
+pub mod Right
+pub mod Came
+pub mod Made
