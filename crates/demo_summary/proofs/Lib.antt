@@ -1,0 +1,4 @@
+pub mod DemoLemmas
+pub mod LineLemmas
+pub mod NumberLemmas
+pub mod TallyLemmas
