@@ -1,12 +1,16 @@
 -- How the answer to each command is made.
 use Rattle.std.proofs.Common.{◌≡◌, ℕ, List, [], Bool, true, false, cond, Ok, Err, Result, refl, sym, subst, arith}
 use Rattle.std.specs.Prelude.{◌≢◌, ◌==◌, IfOk}
-use Rattle.command_input.proofs.AnswerLemmas.{answers_order, answers_refused, answers_unread}
+use Rattle.command_input.proofs.AnswerLemmas.{answers_covering, answers_no_covering, answers_order, answers_refused, answers_unread}
 use Rattle.command_input.proofs.InputLemmas.{every_text_is_an_input, told_by}
-use Rattle.command_input.specs.Answers.{Answers, Leaves, answer_by}
-use Rattle.command_input.specs.Input.{Input, Wanted, an_order, nothing}
-use Rattle.command_input.specs.Taken.{IsReadAs}
+use Rattle.command_input.specs.Answers.{Answers, IsTaken, Leaves, answer_by}
+use Rattle.command_input.specs.Input.{Input, Wanted, a_covering, an_order, limit_of, nothing}
+use Rattle.command_input.specs.Taken.{IsCoveringReadAs, IsReadAs, covered_of}
+use Rattle.command_input.specs.declared.covering.Covering.{Covering}
+use Rattle.demo_summary.specs.Demo.{demo_asked}
+use Rattle.demo_summary.specs.Summary.{summary_line}
 use Rattle.order_reader.specs.Asked.{Asked, asked_of}
+use Rattle.order_table.specs.Trees.{undecided}
 use Rattle.order_reader.specs.declared.order.Order.{Order as OrderRead}
 use Rattle.outcome.proofs.Endings.{given_up, text_ending, usage_ending}
 use Rattle.outcome.specs.Answer.{Answer, finished}
@@ -21,12 +25,13 @@ use Rattle.outcome.specs.declared.status.Status.TheVariants.{Done, NoMemory, Usa
 use Rattle.outcome.specs.declared.status.Status.TheVariants.{Open as StatusOpen}
 use Rattle.outcome.specs.declared.stop.Stop.{Stop}
 use Rattle.outcome.specs.declared.stop.Stop.TheVariants.{NoMemory as StopNoMemory, WriteFault as StopWriteFault}
+use Rattle.shown_table.specs.Shown.{shown_answer}
 use Rattle.sun_verdict.specs.Line.{undecided_in, verdict_line}
 use Rattle.sun_verdict.specs.declared.request.Request.{Request}
 use Rattle.timetable.specs.Answer.{answer_to, wanted_by}
 use Rattle.timetable.specs.Ended.{Ended}
 use Rattle.command_words.specs.declared.command.Command.{Command}
-use Rattle.command_words.specs.declared.command.Command.TheVariants.{Unknown, Sun}
+use Rattle.command_words.specs.declared.command.Command.TheVariants.{Unknown, Sun, Check, Demo}
 
 -- the answer to a command, where it is this one
 abbrev pub AnswersTo : Command → Ending → Stream → Stream → Stream → Stream → Type 0
@@ -47,6 +52,13 @@ unknown_answers command source out is =
     subst (λ (c : Command). AnswersTo c (Plain Usage) source source out out) (sym is)
     (answers_unread (answer_to Unknown) (Plain Usage) source out out (usage_ending source source out) (λ same. cc))
 
+pub demo_answers : (command : Command) (number workers : ℕ) (w : Result ℕ Stop) (ending : Ending) (source out out' : Stream) →
+    command ≡ Demo number workers → Writes {X = ℕ} (summary_line number) w out.faults out'.faults out.bytes out'.bytes →
+    IfOk w (λ count. count ≡ undecided (demo_asked number)) → ending ≡ ending_of w → AnswersTo command ending source source out out'
+demo_answers command number workers w ending source out out' is writes count same =
+    rw (is, same) (answers_unread (answer_to (Demo number workers)) (ending_of w) source out out'
+    (text_ending (summary_line number) (undecided (demo_asked number)) w source source out out' writes count) (no_read_fault w))
+
 pub sun_answers : (command : Command) (r : Request) (w : Result ℕ Stop) (ending : Ending) (source out out' : Stream) →
     command ≡ Sun r → Writes {X = ℕ} (verdict_line r) w out.faults out'.faults out.bytes out'.bytes →
     IfOk w (λ count. count ≡ undecided_in r) → ending ≡ ending_of w → AnswersTo command ending source source out out'
@@ -66,13 +78,16 @@ dry_answers command source out =
       leaves = left (wanted_by command) input;
     }
   where
-    left : (wanted : Wanted) (input : Input) → Leaves wanted input NoMemory source source
-    left nothing input = (refl, λ same. cc)
-    left an_order input = record {
+    untaken : (limit : ℕ) (input : Input) → IsTaken limit input NoMemory source source
+    untaken limit input = record {
       within = ([], omega arith, λ x told. (x, told, refl));
       whole = λ no_read memory short. absurd (memory refl);
       later = omega arith;
     }
+    left : (wanted : Wanted) (input : Input) → Leaves wanted input NoMemory source source
+    left nothing input = (refl, λ same. cc)
+    left an_order input = untaken (limit_of an_order) input
+    left a_covering input = untaken (limit_of a_covering) input
 
 -- what is written for an order that was read, where the command answers it so
 pub read_answers : (which : Command) (answer : Asked → Answer) → wanted_by which ≡ an_order → answer_to which ≡ answer_by answer →
@@ -91,6 +106,16 @@ pub read_refuses : (which : Command) (answer : Asked → Answer) → wanted_by w
     IsReadAs source source' (Err ending) → AnswersTo command ending source source' out out
 read_refuses which answer wants answers command ending source source' out is was_read =
     rw (is, wants, answers) (answers_refused answer ending source source' out was_read)
+
+-- what is shown of a covering that was read
+pub check_answers : (command : Command) (c : Covering) (ending : Ending) (source source' out out' : Stream) → command ≡ Check →
+    IsCoveringReadAs source source' (Ok c) → EndsBy (shown_answer (covered_of c).order (covered_of c).lines) ending source source' out out' →
+    AnswersTo command ending source source' out out'
+check_answers command c ending source source' out out' is was_read ends = rw is (answers_covering shown_answer c ending source source' out out' was_read ends)
+
+pub check_refuses : (command : Command) (ending : Ending) (source source' out : Stream) → command ≡ Check →
+    IsCoveringReadAs source source' (Err ending) → AnswersTo command ending source source' out out
+check_refuses command ending source source' out is was_read = rw is (answers_no_covering shown_answer ending source source' out was_read)
 
 -- what was answered, with the line that was reported
 pub ended_by : (command : Command) (ending : Ending) (status : Status) (line : List ℕ) (before after : Streams) →

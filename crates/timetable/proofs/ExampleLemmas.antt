@@ -40,4 +40,4 @@ module _ (command : Command) (bytes : List ℕ) (status : Status) (before after 
   pub sun_is_answered : (r : Request) → command ≡ Sun r → (status ≡ Done) ⊎ (status ≡ StatusOpen) ⊎ (status ≡ NoMemory)
   sun_is_answered r is =
       let k = subst (λ (it : Command). KeepsTheLaws it bytes status before after) is keeps in
-      k.answered (λ same. cc) unread tt (λ reads. absurd cc)
+      k.answered (λ same. cc) unread tt (λ reads. absurd cc) (λ reads. absurd cc)

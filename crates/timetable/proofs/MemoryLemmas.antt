@@ -9,7 +9,7 @@ use Rattle.source_sink.specs.Outside.{Rose}
 use Rattle.timetable.proofs.LawLemmas.{finished_runs_wrote_the_answer, orders_are_refused_for_cause, right_words_are_answered, tables_are_right, told_bytes_decide, usage_is_for_wrong_words, wrong_orders_are_refused, wrong_words_are_refused}
 use Rattle.timetable.specs.Answer.{wanted_by}
 use Rattle.timetable.specs.Ended.{Ended}
-use Rattle.timetable.specs.Laws.{IsAnOrder, IsFinished, IsNoOrder, IsRefused}
+use Rattle.timetable.specs.Laws.{IsACovering, IsAnOrder, IsFinished, IsNoOrder, IsRefused}
 use Rattle.timetable.specs.Memory.{KeepsTheLaws}
 use Rattle.command_words.specs.declared.command.Command.{Command}
 use Rattle.command_words.specs.declared.command.Command.TheVariants.{Unknown}
@@ -47,9 +47,10 @@ keeps_the_laws command bytes status before after run told no_read no_write =
           without_a_read_fault status before after no_read
           (wrong_orders_are_refused command status before after run reads
           (subst IsNoOrder (sym (input_told run bytes told input spelled)) wrong));
-      answered = λ known input spelled accepted.
+      answered = λ known input spelled accepted shown.
           right_words_are_answered command status before after run known
-          (λ reads. subst IsAnOrder (sym (input_told run bytes told input spelled)) (accepted reads)) no_read no_write;
+          (λ reads. subst IsAnOrder (sym (input_told run bytes told input spelled)) (accepted reads))
+          (λ reads. subst IsACovering (sym (input_told run bytes told input spelled)) (shown reads)) no_read no_write;
       finished = λ is input spelled.
           subst (λ (i : Input). IsFinished command status i before after) (input_told run bytes told input spelled)
           (finished_runs_wrote_the_answer command status before after run is);

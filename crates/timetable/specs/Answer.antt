@@ -1,14 +1,19 @@
 -- What the program answers to its words and its input.
 use Rattle.std.specs.Prelude.{ℕ, List}
-use Rattle.command_input.specs.Answers.{answer_by}
-use Rattle.command_input.specs.Input.{Input, Wanted, an_order, nothing}
+use Rattle.command_input.specs.Answers.{answer_by, answer_shown}
+use Rattle.command_input.specs.Input.{Input, Wanted, a_covering, an_order, nothing}
 use Rattle.command_words.specs.Words.{command_of}
 use Rattle.command_words.specs.declared.command.Command.{Command}
-use Rattle.command_words.specs.declared.command.Command.TheVariants.{Unknown, Sun, Order, Plain, Table}
+use Rattle.command_words.specs.declared.command.Command.TheVariants.{Unknown, Sun, Order, Plain, Table, Cover, Check, Demo}
+use Rattle.demo_summary.specs.Demo.{demo_asked}
+use Rattle.demo_summary.specs.Summary.{summary_line}
+use Rattle.order_covering.specs.Covering.{covering_of}
+use Rattle.order_covering.specs.declared.form.Form.{Form}
 use Rattle.order_reader.specs.Asked.{Asked}
 use Rattle.order_reader.specs.Line.{order_line}
 use Rattle.order_table.specs.Trees.{table_of, undecided}
 use Rattle.outcome.specs.Answer.{Answer, finished, usage_answer}
+use Rattle.shown_table.specs.Shown.{shown_answer}
 use Rattle.sun_verdict.specs.Line.{undecided_in, verdict_line}
 use Rattle.sun_verdict.specs.declared.request.Request.{Request}
 
@@ -17,6 +22,8 @@ abbrev pub wanted_by : Command → Wanted
 wanted_by Order = an_order
 wanted_by Plain = an_order
 wanted_by (Table workers) = an_order
+wanted_by (Cover workers form) = an_order
+wanted_by Check = a_covering
 wanted_by command = nothing
 
 -- the line of the verdict
@@ -31,12 +38,23 @@ order_answer o = finished 0 (order_line o)
 abbrev pub table_answer : Asked → Answer
 table_answer o = finished (undecided o) (table_of o)
 
+-- the covering, whoever searches it
+abbrev pub covering_answer : Form → Asked → Answer
+covering_answer form o = finished (undecided o) (covering_of form o)
+
+-- the summary of the order that is made of a number
+abbrev pub demo_answer : ℕ → Answer
+demo_answer number = finished (undecided (demo_asked number)) (summary_line number)
+
 abbrev pub answer_to : Command → Input → Answer
 answer_to Unknown input = usage_answer
 answer_to (Sun r) input = sun_answer r
 answer_to Order input = answer_by order_answer input
 answer_to Plain input = answer_by table_answer input
 answer_to (Table workers) input = answer_by table_answer input
+answer_to (Cover workers form) input = answer_by (covering_answer form) input
+answer_to Check input = answer_shown shown_answer input
+answer_to (Demo number workers) input = demo_answer number
 
 -- the answer to the words behind the program's name and to the input
 abbrev pub answer_of : List (List ℕ) → Input → Answer

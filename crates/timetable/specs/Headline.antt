@@ -1,14 +1,16 @@
--- What a printed table is: the main sentence of the program, in its own words.
-use Rattle.std.specs.Prelude.{◌≡◌, ◌≢◌, ◌⊎◌, Ok}
-use Rattle.command_input.specs.Input.{IsSpelledBy, an_order, order, read}
+-- What a printed table is, and a shown one: the main sentences of the program, in its own words.
+use Rattle.std.specs.Prelude.{◌≡◌, ◌≢◌, ◌⊎◌, ℕ, List, None, Ok}
+use Rattle.command_input.specs.Input.{IsSpelledBy, a_covering, an_order, covering, order, read}
 use Rattle.command_words.specs.declared.command.Command.{Command}
-use Rattle.command_words.specs.declared.command.Command.TheVariants.{Plain, Table}
+use Rattle.command_words.specs.declared.command.Command.TheVariants.{Check, Plain, Table}
 use Rattle.order_reader.specs.Asked.{Asked}
-use Rattle.order_table.specs.RightTable.{IsRightTable}
+use Rattle.order_table.specs.RightTable.{IsRightFor, IsRightTable}
+use Rattle.order_table.specs.Table.{days_undecided, table_text}
 use Rattle.order_table.specs.Trees.{table_of, undecided}
 use Rattle.outcome.specs.Streams.{Streams}
 use Rattle.outcome.specs.declared.status.Status.{Status}
 use Rattle.outcome.specs.declared.status.Status.TheVariants.{Done, Open}
+use Rattle.shown_table.specs.Shown.{shown_table}
 use Rattle.source_sink.specs.Outside.{Adds}
 use Rattle.source_sink.specs.Reading.{IsReadToEnd}
 
@@ -35,3 +37,26 @@ pub record PrintedARightTable (status : Status) (before after : Streams) : Type 
 abbrev pub Headline : Command → Status → Streams → Streams → Type 0
 Headline command status before after =
     PrintsATable command → (status ≡ Done) ⊎ (status ≡ Open) → PrintedARightTable status before after
+
+-- ---- a table that a covering shows
+
+abbrev pub ShowsATable : Command → Type 0
+ShowsATable Check = Unit {0}
+ShowsATable command = ⊥
+
+-- The source was read to its end, and no line of the covering that it spelled is bad. The output has in addition the table that
+-- its lines show, for the order that its first line spells, and each entry of that table is right, whoever made the covering.
+pub record PrintedAShownTable (status : Status) (before after : Streams) : Type 0 where
+  pub asked : Asked
+  pub lines : List ℕ
+  pub spelled : IsSpelledBy a_covering before.source.bytes (covering (read (Ok (record { order = asked; lines = lines }))))
+  pub read_through : IsReadToEnd before.source.bytes after.source.bytes
+  pub accepted : (shown_table asked lines).bad ≡ None
+  pub printed : Adds before.out.bytes after.out.bytes (table_text asked (shown_table asked lines).days)
+  pub right : IsRightFor asked (shown_table asked lines).days
+  pub decided : status ≡ Done → days_undecided (shown_table asked lines).days ≡ 0
+  pub undecided : status ≡ Open → days_undecided (shown_table asked lines).days ≢ 0
+
+abbrev pub Checked : Command → Status → Streams → Streams → Type 0
+Checked command status before after =
+    ShowsATable command → (status ≡ Done) ⊎ (status ≡ Open) → PrintedAShownTable status before after

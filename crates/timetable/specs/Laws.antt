@@ -1,22 +1,25 @@
 -- What follows from a run's ending for its words, its input and its streams.
-use Rattle.std.specs.Prelude.{◌≡◌, ◌≢◌, ◌⊎◌, ℕ, List, [], Some, Ok, Err}
-use Rattle.command_input.specs.Input.{Input, IsSpelled, an_order, nothing, order, read, too_long}
+use Rattle.std.specs.Prelude.{◌≡◌, ◌≢◌, ◌⊎◌, ℕ, List, [], Some, None, Ok, Err}
+use Rattle.command_input.specs.Input.{Input, IsSpelled, a_covering, an_order, covering, nothing, order, read, too_long}
 use Rattle.order_reader.specs.Asked.{Asked}
 use Rattle.order_reader.specs.Reads.{ReadsOrder}
 use Rattle.outcome.specs.Answer.{line_of}
 use Rattle.outcome.specs.Ends.{EndsAs, Reports}
 use Rattle.outcome.specs.Streams.{Streams}
 use Rattle.outcome.specs.declared.status.Status.{Status}
-use Rattle.outcome.specs.declared.status.Status.TheVariants.{Done, Open, Usage, OrderRefused, ReadFault, NoMemory}
+use Rattle.outcome.specs.declared.status.Status.TheVariants.{Done, Open, Usage, OrderRefused, ReadFault, WriteFault, NoMemory, CoverRefused}
 use Rattle.source_sink.specs.Outside.{Rose, Adds}
 use Rattle.source_sink.specs.Reading.{IsReadToEnd}
+use Rattle.demo_summary.specs.Demo.{demo_asked}
+use Rattle.order_table.specs.Table.{days_undecided}
+use Rattle.shown_table.specs.Shown.{shown_table}
 use Rattle.sun_verdict.specs.Line.{undecided_in}
 use Rattle.timetable.specs.Answer.{answer_to, wanted_by}
 use Rattle.timetable.specs.Ended.{Ended}
 use Rattle.order_table.specs.RightTable.{IsRightTable}
 use Rattle.order_table.specs.Trees.{undecided}
 use Rattle.command_words.specs.declared.command.Command.{Command}
-use Rattle.command_words.specs.declared.command.Command.TheVariants.{Unknown, Sun, Plain, Table}
+use Rattle.command_words.specs.declared.command.Command.TheVariants.{Unknown, Sun, Plain, Table, Cover, Check, Demo}
 
 -- ---- words and inputs
 
@@ -25,6 +28,9 @@ ReadsItsSource command = wanted_by command ≢ nothing
 
 abbrev pub ReadsAnOrder : Command → Type 0
 ReadsAnOrder command = wanted_by command ≡ an_order
+
+abbrev pub ReadsACovering : Command → Type 0
+ReadsACovering command = wanted_by command ≡ a_covering
 
 -- the input is an order
 abbrev pub IsAnOrder : Input → Type 0
@@ -37,11 +43,26 @@ IsNoOrder (order too_long) = Unit {0}
 IsNoOrder (order (read (Err fault))) = Unit {0}
 IsNoOrder input = ⊥
 
+-- the input is a covering without a bad line
+abbrev pub IsACovering : Input → Type 0
+IsACovering (covering (read (Ok c))) = (shown_table c.order c.lines).bad ≡ None
+IsACovering input = ⊥
+
+-- the input has a bad line, the first one or a later one, or is too long for a covering
+abbrev pub IsNoCovering : Input → Type 0
+IsNoCovering (covering too_long) = Unit {0}
+IsNoCovering (covering (read (Err fault))) = Unit {0}
+IsNoCovering (covering (read (Ok c))) = (shown_table c.order c.lines).bad ≢ None
+IsNoCovering input = ⊥
+
 -- how many entries or verdicts of the answer are undecided
 abbrev pub undecided_by : Command → Input → ℕ
 undecided_by (Sun r) input = undecided_in r
 undecided_by Plain (order (read (Ok o))) = undecided o
 undecided_by (Table workers) (order (read (Ok o))) = undecided o
+undecided_by (Cover workers form) (order (read (Ok o))) = undecided o
+undecided_by Check (covering (read (Ok c))) = days_undecided (shown_table c.order c.lines).days
+undecided_by (Demo number workers) input = undecided (demo_asked number)
 undecided_by command input = 0
 
 -- ---- laws
@@ -76,20 +97,40 @@ WrongOrdersAreRefused =
     ReadsAnOrder command → IsNoOrder run.input →
     (status ≡ OrderRefused) ⊎ ((status ≡ ReadFault) × Rose before.source.faults after.source.faults) ⊎ (status ≡ NoMemory)
 
--- Right words, and an order where the command reads one, are answered where no fault was counted, want of memory aside.
+-- CoverRefused is answered only by a command that reads a covering, to an input that is none; what its lines before the bad one
+-- show is written.
+pub record IsCoverRefused (command : Command) (input : Input) (before after : Streams) : Type 0 where
+  pub reads : ReadsACovering command
+  pub cause : IsNoCovering input
+  pub written : Adds before.out.bytes after.out.bytes (answer_to command input).text
+
+abbrev pub CoveringsAreRefusedForCause : Type 0
+CoveringsAreRefusedForCause =
+    (command : Command) (before after : Streams) → (run : Ended command CoverRefused before after) → IsCoverRefused command run.input before after
+
+-- Such a command answers CoverRefused to each input that is no covering, faults that were counted and want of memory aside.
+abbrev pub WrongCoveringsAreRefused : Type 0
+WrongCoveringsAreRefused =
+    (command : Command) (status : Status) (before after : Streams) → (run : Ended command status before after) →
+    ReadsACovering command → IsNoCovering run.input →
+    (status ≡ CoverRefused) ⊎ ((status ≡ ReadFault) × Rose before.source.faults after.source.faults)
+    ⊎ ((status ≡ WriteFault) × Rose before.out.faults after.out.faults) ⊎ (status ≡ NoMemory)
+
+-- Right words, and an order or a covering where the command reads one, are answered where no fault was counted, want of memory aside.
 abbrev pub RightWordsAreAnswered : Type 0
 RightWordsAreAnswered =
     (command : Command) (status : Status) (before after : Streams) → (run : Ended command status before after) →
-    command ≢ Unknown → (ReadsAnOrder command → IsAnOrder run.input) →
+    command ≢ Unknown → (ReadsAnOrder command → IsAnOrder run.input) → (ReadsACovering command → IsACovering run.input) →
     (Rose before.source.faults after.source.faults → ⊥) → (Rose before.out.faults after.out.faults → ⊥) →
     (status ≡ Done) ⊎ (status ≡ Open) ⊎ (status ≡ NoMemory)
 
--- A run that is Done or Open took right words, read its source to the end and an order there where its command reads one, and
--- wrote the whole text; it is Done exactly where nothing in it is undecided.
+-- A run that is Done or Open took right words, read its source to the end and an order or a covering there where its command
+-- reads one, and wrote the whole text; it is Done exactly where nothing in it is undecided.
 pub record IsFinished (command : Command) (status : Status) (input : Input) (before after : Streams) : Type 0 where
   pub words : command ≢ Unknown
   pub read_through : ReadsItsSource command → IsReadToEnd before.source.bytes after.source.bytes
   pub accepted : ReadsAnOrder command → IsAnOrder input
+  pub shown : ReadsACovering command → IsACovering input
   pub written : Adds before.out.bytes after.out.bytes (answer_to command input).text
   pub decided : status ≡ Done → undecided_by command input ≡ 0
   pub undecided : status ≡ Open → undecided_by command input ≢ 0

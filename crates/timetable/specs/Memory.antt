@@ -7,7 +7,7 @@ use Rattle.outcome.specs.Streams.{Streams}
 use Rattle.outcome.specs.declared.status.Status.{Status}
 use Rattle.outcome.specs.declared.status.Status.TheVariants.{Done, Open, Usage, OrderRefused, NoMemory}
 use Rattle.timetable.specs.Answer.{wanted_by}
-use Rattle.timetable.specs.Laws.{EndedBy, IsAnOrder, IsFinished, IsNoOrder, IsRefused, IsUsage, ReadsAnOrder}
+use Rattle.timetable.specs.Laws.{EndedBy, IsACovering, IsAnOrder, IsFinished, IsNoOrder, IsRefused, IsUsage, ReadsACovering, ReadsAnOrder}
 use Rattle.command_words.specs.declared.command.Command.{Command}
 use Rattle.command_words.specs.declared.command.Command.TheVariants.{Unknown}
 
@@ -19,6 +19,7 @@ pub record KeepsTheLaws (command : Command) (bytes : List ℕ) (status : Status)
   pub wrong_order : ReadsAnOrder command → (input : Input) → IsSpelled (wanted_by command) bytes input → IsNoOrder input →
       (status ≡ OrderRefused) ⊎ (status ≡ NoMemory)
   pub answered : command ≢ Unknown → (input : Input) → IsSpelled (wanted_by command) bytes input → (ReadsAnOrder command → IsAnOrder input) →
+      (ReadsACovering command → IsACovering input) →
       (status ≡ Done) ⊎ (status ≡ Open) ⊎ (status ≡ NoMemory)
   pub finished : (status ≡ Done) ⊎ (status ≡ Open) → (input : Input) → IsSpelled (wanted_by command) bytes input →
       IsFinished command status input before after

@@ -1,5 +1,5 @@
 // What follows from how a run ended. Each law is the contract of a function that does nothing.
-ghost use Rattle.timetable.specs.Laws.{FinishedRunsWroteTheAnswer, OrdersAreRefusedForCause, RightWordsAreAnswered, TablesAreRight, ToldBytesDecide, UsageIsForWrongWords, WrongOrdersAreRefused, WrongWordsAreRefused};
+ghost use Rattle.timetable.specs.Laws.{CoveringsAreRefusedForCause, FinishedRunsWroteTheAnswer, OrdersAreRefusedForCause, RightWordsAreAnswered, TablesAreRight, ToldBytesDecide, UsageIsForWrongWords, WrongCoveringsAreRefused, WrongOrdersAreRefused, WrongWordsAreRefused};
 
 /// A run is ended by `Usage` only where the words are wrong.
 pub fn usage_is_for_wrong_words()
@@ -21,14 +21,25 @@ pub fn wrong_orders_are_refused()
     ensures { WrongOrdersAreRefused }
 {}
 
-/// Right words, with an order where the command reads one, are answered by `Done` or `Open` where no fault was counted,
+/// A run is ended by `CoverRefused` only where its command reads a covering and its input is none; what the lines before the
+/// bad one show is written.
+pub fn coverings_are_refused_for_cause()
+    ensures { CoveringsAreRefusedForCause }
+{}
+
+/// An input that is no covering is refused by a command that reads one, counted faults and want of memory aside.
+pub fn wrong_coverings_are_refused()
+    ensures { WrongCoveringsAreRefused }
+{}
+
+/// Right words, with an order or a covering where the command reads one, are answered by `Done` or `Open` where no fault was counted,
 /// want of memory aside.
 pub fn right_words_are_answered()
     ensures { RightWordsAreAnswered }
 {}
 
-/// `Done` and `Open` say that the words are right, the input is an order where the command reads one and was read to its
-/// end, and the whole text was written; `Done` exactly where nothing in it is undecided.
+/// `Done` and `Open` say that the words are right, the input is an order or a covering where the command reads one and was
+/// read to its end, and the whole text was written; `Done` exactly where nothing in it is undecided.
 pub fn finished_runs_wrote_the_answer()
     ensures { FinishedRunsWroteTheAnswer }
 {}

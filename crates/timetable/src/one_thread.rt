@@ -2,17 +2,32 @@
 ghost use Rattle.std.specs.Prelude.{map, string_bytes};
 ghost use Rattle.command_input.specs.Answers.{Answers};
 ghost use Rattle.command_words.specs.Words.{IsCommand, command_of, without_workers};
-ghost use Rattle.outcome.specs.Streams.{stream};
+ghost use Rattle.command_input.specs.Taken.{covered_of};
+ghost use Rattle.outcome.specs.Endings.{EndsBy};
+ghost use Rattle.outcome.specs.Streams.{Stream, stream};
+ghost use Rattle.shown_table.specs.Shown.{shown_answer};
 ghost use Rattle.timetable.specs.Answer.{answer_to, wanted_by};
 
 use crate::orders::write_line;
-use command_input::order_from;
+use command_input::{Covering, covering_from, order_from};
 use command_words::{Command, command_in};
 use order_table::write_table;
 use outcome::{Ending, Status, ending_of};
+use shown_table::write_shown;
 use source_sink::{Sink, Source};
 use std::alloc::Global;
 use sun_verdict::write_verdict;
+
+/// Shows the table of a covering that was read.
+fn show<K: Sink>(alloc: Global, covering: Covering, out: &mut K) -> Ending
+    ensures { (source source' : Stream) → EndsBy (shown_answer (covered_of covering).order (covered_of covering).lines) result source source'
+        (stream (K.held out.old) (K.faults out.old)) (stream (K.held out.new) (K.faults out.new)) }
+{
+    let Covering {
+        order, text, from, ..
+    } = covering;
+    write_shown(alloc, order, &text[from..], out)
+}
 
 /// Answers a command on one thread; one that needs more is none here.
 pub(crate) fn answer<S: Source, K: Sink>(
@@ -27,7 +42,9 @@ pub(crate) fn answer<S: Source, K: Sink>(
         (stream (K.held out.old) (K.faults out.old)) (stream (K.held out.new) (K.faults out.new)) }
 {
     match command {
-        Command::Unknown | Command::Table { .. } => Ending::Plain(Status::Usage),
+        Command::Unknown | Command::Table { .. } | Command::Cover { .. } | Command::Demo { .. } => {
+            Ending::Plain(Status::Usage)
+        }
         Command::Sun(request) => ending_of(write_verdict(alloc, &request, out)),
         Command::Order => match order_from(alloc, source) {
             Ok(order) => ending_of(write_line(alloc, &order, out)),
@@ -35,6 +52,10 @@ pub(crate) fn answer<S: Source, K: Sink>(
         },
         Command::Plain => match order_from(alloc, source) {
             Ok(order) => ending_of(write_table(alloc, order, out)),
+            Err(ending) => ending,
+        },
+        Command::Check => match covering_from(alloc, source) {
+            Ok(covering) => show(alloc, covering, out),
             Err(ending) => ending,
         },
     }

@@ -8,11 +8,13 @@ ghost use Rattle.outcome.specs.Streams.{stream, streams};
 ghost use Rattle.sun_verdict.specs.Truth.{IsTrueOfSky};
 ghost use Rattle.timetable.specs.Answer.{answer_to, wanted_by};
 ghost use Rattle.timetable.specs.Ended.{Ended};
-ghost use Rattle.timetable.specs.Headline.{Headline};
+ghost use Rattle.timetable.specs.Headline.{Checked, Headline};
 
 use crate::one_thread;
 use command_input::order_from;
 use command_words::{Command, command_in};
+use demo_summary::write_summary;
+use order_covering::write_covering;
 use outcome::{Ending, Status, ending_of};
 use source_sink::{Sink, Source, write_all};
 use std::alloc::Global;
@@ -41,9 +43,20 @@ fn answer<R: Threads + Wait + Sync, S: Source, K: Sink, G: Gate + Sync>(
             Ok(order) => ending_of(write_table(rt, alloc, order, workers, gate, out)),
             Err(ending) => ending,
         },
-        Command::Unknown | Command::Sun(_) | Command::Order | Command::Plain => {
-            one_thread::answer(alloc, command, source, out)
+        Command::Cover { workers, form } => match order_from(alloc, source) {
+            Ok(order) => ending_of(write_covering(
+                rt, alloc, order, workers, form, gate, out,
+            )),
+            Err(ending) => ending,
+        },
+        Command::Demo { number, workers } => {
+            ending_of(write_summary(rt, alloc, number, workers, gate, out))
         }
+        Command::Unknown
+        | Command::Sun(_)
+        | Command::Order
+        | Command::Plain
+        | Command::Check => one_thread::answer(alloc, command, source, out),
     }
 }
 
@@ -75,7 +88,8 @@ fn report<E: Sink>(ending: &Ending, err: &mut E) -> Status
     ending.status()
 }
 
-/// Runs the words of a command line, without the program's name; `table` is searched by several workers at the same time.
+/// Runs the words of a command line, without the program's name; `table`, `cover` and `demo` are searched by several workers at
+/// the same time.
 ///
 /// The text goes to `out`, and for each status from `Usage` on one line goes to `err`. Each worker calls the gate before each
 /// cell that it judges. The call may wait for its workers.
@@ -90,6 +104,13 @@ pub fn run<R: Threads + Wait + Sync, S: Source, K: Sink, E: Sink, G: Gate + Sync
 ) -> Status
     // Where it prints a table, each of its entries is right at every rational place of the district.
     ensures headline { Headline (command_of (map string_bytes words.now)) result
+        (streams (stream (S.left source.old) (S.faults source.old)) (stream (K.held out.old) (K.faults out.old))
+        (stream (E.held err.old) (E.faults err.old)))
+        (streams (stream (S.left source.new) (S.faults source.new)) (stream (K.held out.new) (K.faults out.new))
+        (stream (E.held err.new) (E.faults err.new))) }
+
+    // Where it shows the table of a covering, each of its entries is right, whoever made the covering.
+    ensures checked { Checked (command_of (map string_bytes words.now)) result
         (streams (stream (S.left source.old) (S.faults source.old)) (stream (K.held out.old) (K.faults out.old))
         (stream (E.held err.old) (E.faults err.old)))
         (streams (stream (S.left source.new) (S.faults source.new)) (stream (K.held out.new) (K.faults out.new))
@@ -120,6 +141,11 @@ pub fn run_plain<S: Source, K: Sink, E: Sink>(
     err: &mut E,
 ) -> Status
     ensures headline { Headline (without_workers (command_of (map string_bytes words.now))) result
+        (streams (stream (S.left source.old) (S.faults source.old)) (stream (K.held out.old) (K.faults out.old))
+        (stream (E.held err.old) (E.faults err.old)))
+        (streams (stream (S.left source.new) (S.faults source.new)) (stream (K.held out.new) (K.faults out.new))
+        (stream (E.held err.new) (E.faults err.new))) }
+    ensures checked { Checked (without_workers (command_of (map string_bytes words.now))) result
         (streams (stream (S.left source.old) (S.faults source.old)) (stream (K.held out.old) (K.faults out.old))
         (stream (E.held err.old) (E.faults err.old)))
         (streams (stream (S.left source.new) (S.faults source.new)) (stream (K.held out.new) (K.faults out.new))

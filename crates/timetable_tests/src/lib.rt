@@ -5,6 +5,8 @@
 #[cfg(test)]
 mod common;
 #[cfg(test)]
+mod coverings;
+#[cfg(test)]
 mod orders;
 #[cfg(test)]
 mod sun;

@@ -11,10 +11,10 @@ use steal_pool::{Gate, OpenGate};
 use timetable::{Status, run};
 
 /// Two polygons, one with a hole, and ten days over the month's end.
-const MEMBERS: &str =
+pub(crate) const MEMBERS: &str =
     r#""from":"2025-02-22","days":10,"method":"makkah","asr":"hanafi","zone":180,"late_isha":[["2025-02-25","2025-03-26"]]"#;
 
-const DISTRICT: &str =
+pub(crate) const DISTRICT: &str =
     r#"{"type":"MultiPolygon","coordinates":[[[[39,21],[39.4,21],[39.4,21.4],[39,21.4],[39,21]],[[39.1,21.1],[39.3,21.1],[39.3,21.3],[39.1,21.3],[39.1,21.1]]],[[[39.5,21],[39.6,21.1],[39.5,21.2],[39.5,21]]]]}"#;
 
 /// The status of a line of words over an order, and what it writes.

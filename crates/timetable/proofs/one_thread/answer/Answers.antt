@@ -1,13 +1,19 @@
 use Rattle.std.proofs.Common.{ap, inl, inr, refl}
 use Rattle.command_words.specs.Words.{without_workers}
 use Rattle.command_words.specs.declared.command.Command.TheVariants.{Order, Plain}
-use Rattle.timetable.proofs.AnswerLemmas.{read_answers, read_refuses, sun_answers, unknown_answers}
+use Rattle.timetable.proofs.AnswerLemmas.{check_answers, check_refuses, read_answers, read_refuses, sun_answers, unknown_answers}
 use Rattle.timetable.specs.Answer.{order_answer, table_answer}
 use Rattle.timetable.proofs.one_thread.answer.Goals as goal
 
 pub returns-in-Unknown : goal.returns-in-Unknown
 returns-in-Unknown g c =
-    unknown_answers _ _ _ (elim c.in-Unknown.is [ inl unknown ↦ ap without_workers unknown | inr table ↦ ap without_workers table.1 ])
+    unknown_answers _ _ _ (elim c.in-Unknown.is [
+      | inl unknown ↦ ap without_workers unknown
+      | inr more ↦ elim more [
+        | inl table ↦ ap without_workers table.1
+        | inr two ↦ elim two [ inl cover ↦ ap without_workers cover.2 | inr demo ↦ ap without_workers demo.2 ]
+      ]
+    ])
 
 pub returns-in-Sun : goal.returns-in-Sun
 returns-in-Sun g c =
@@ -29,3 +35,10 @@ returns-in-Ok-order_from g c =
 
 pub returns-in-Err-order_from : goal.returns-in-Err-order_from
 returns-in-Err-order_from g c = read_refuses Plain table_answer refl refl _ _ _ _ _ (ap without_workers c.in-Plain.is) c.in-Err-order_from.ensures
+
+pub returns-in-Ok-covering_from : goal.returns-in-Ok-covering_from
+returns-in-Ok-covering_from g c =
+    check_answers _ c.in-Ok-covering_from.covering _ _ _ _ _ (ap without_workers c.in-Check.is) c.in-Ok-covering_from.ensures (c.show.ensures _ _)
+
+pub returns-in-Err-covering_from : goal.returns-in-Err-covering_from
+returns-in-Err-covering_from g c = check_refuses _ _ _ _ _ (ap without_workers c.in-Check.is) c.in-Err-covering_from.ensures

@@ -1,7 +1,7 @@
 use Rattle.std.proofs.Common.{refl}
-use Rattle.command_words.specs.declared.command.Command.TheVariants.{Table}
-use Rattle.timetable.proofs.AnswerLemmas.{read_answers, read_refuses}
-use Rattle.timetable.specs.Answer.{table_answer}
+use Rattle.command_words.specs.declared.command.Command.TheVariants.{Cover, Table}
+use Rattle.timetable.proofs.AnswerLemmas.{demo_answers, read_answers, read_refuses}
+use Rattle.timetable.specs.Answer.{covering_answer, table_answer}
 use Rattle.timetable.proofs.top_calls.answer.Goals as goal
 
 pub returns-in-Ok : goal.returns-in-Ok
@@ -11,3 +11,17 @@ returns-in-Ok g c =
 
 pub returns-in-Err : goal.returns-in-Err
 returns-in-Err g c = read_refuses (Table c.in-Table.workers) table_answer refl refl _ _ _ _ _ c.in-Table.is c.in-Err.ensures
+
+pub returns-in-Ok-order_from : goal.returns-in-Ok-order_from
+returns-in-Ok-order_from g c =
+    read_answers (Cover c.in-Cover.workers c.in-Cover.form) (covering_answer c.in-Cover.form) refl refl _ c.in-Ok-order_from.order _ _ c.write_covering.result
+    _ _ _ _ _ c.in-Cover.is c.in-Ok-order_from.ensures refl c.write_covering.ensures.writes c.write_covering.ensures.count c.ending_of-in-Ok-order_from.ensures
+
+pub returns-in-Err-order_from : goal.returns-in-Err-order_from
+returns-in-Err-order_from g c =
+    read_refuses (Cover c.in-Cover.workers c.in-Cover.form) (covering_answer c.in-Cover.form) refl refl _ _ _ _ _ c.in-Cover.is c.in-Err-order_from.ensures
+
+pub returns-in-Demo : goal.returns-in-Demo
+returns-in-Demo g c =
+    demo_answers _ c.in-Demo.number c.in-Demo.workers c.write_summary.result _ _ _ _ c.in-Demo.is c.write_summary.ensures.writes c.write_summary.ensures.count
+    c.ending_of-in-Demo.ensures

@@ -3,12 +3,16 @@ use Rattle.command_words.proofs.RangeLemmas.{commands_are_in_range}
 use Rattle.command_words.specs.Words.{IsCommand, command_of}
 use Rattle.sun_verdict.proofs.TruthLemmas.{is_true_of_sky}
 use Rattle.timetable.proofs.AnswerLemmas.{ended_by}
-use Rattle.timetable.proofs.HeadlineLemmas.{headline}
+use Rattle.timetable.proofs.HeadlineLemmas.{checked, headline}
 use Rattle.timetable.proofs.top_calls.run.Goals as goal
 
 pub returns-clause-headline : goal.returns-clause-headline
 returns-clause-headline g c =
     headline _ _ _ _ (ended_by _ c.answer_words-ending.result c.report.result _ _ _ c.answer_words-ending.ensures c.report.ensures.status refl c.report.ensures.reports)
+
+pub returns-clause-checked : goal.returns-clause-checked
+returns-clause-checked g c =
+    checked _ _ _ _ (ended_by _ c.answer_words-ending.result c.report.result _ _ _ c.answer_words-ending.ensures c.report.ensures.status refl c.report.ensures.reports)
 
 pub returns-clause-ended : goal.returns-clause-ended
 returns-clause-ended g c =
