@@ -84,6 +84,7 @@ dry_answers command source out =
       whole = λ no_read memory short. absurd (memory refl);
       later = omega arith;
     }
+
     left : (wanted : Wanted) (input : Input) → Leaves wanted input NoMemory source source
     left nothing input = (refl, λ same. cc)
     left an_order input = untaken (limit_of an_order) input

@@ -91,6 +91,7 @@ by_order : (command : Command) (answer : Asked → Answer) (count : Asked → �
 by_order command answer count text known wants answers finishes counts bytes input spelled = by input (subst (λ (w : Wanted). IsSpelled w bytes input) wants spelled) where
   reads_none : ReadsACovering command → ⊥
   reads_none reads = let same : an_order ≡ a_covering = sym wants ∙ reads in cc
+
   by : (input : Input) → IsSpelled an_order bytes input → Kinds command input
   by unread spelled = absurd spelled
   by (covering given) spelled = absurd spelled
@@ -106,6 +107,7 @@ unfolding shown_answer
 by_lines o lines = by (shown_table o lines).bad refl where
   input : Input
   input = covering (read (Ok (record { order = o; lines = lines })))
+
   by : (bad : Option BadLine) → (shown_table o lines).bad ≡ bad → Kinds Check input
   by None none =
       text_of Check input (table_text o (shown_table o lines).days) (λ same. cc) (λ same. absurd cc) (λ reads. none) (λ long. long)

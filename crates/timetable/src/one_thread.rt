@@ -24,7 +24,10 @@ fn show<K: Sink>(alloc: Global, covering: Covering, out: &mut K) -> Ending
         (stream (K.held out.old) (K.faults out.old)) (stream (K.held out.new) (K.faults out.new)) }
 {
     let Covering {
-        order, text, from, ..
+        order,
+        text,
+        from,
+        ..
     } = covering;
     write_shown(alloc, order, &text[from..], out)
 }

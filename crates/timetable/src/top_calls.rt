@@ -44,19 +44,14 @@ fn answer<R: Threads + Wait + Sync, S: Source, K: Sink, G: Gate + Sync>(
             Err(ending) => ending,
         },
         Command::Cover { workers, form } => match order_from(alloc, source) {
-            Ok(order) => ending_of(write_covering(
-                rt, alloc, order, workers, form, gate, out,
-            )),
+            Ok(order) => ending_of(write_covering(rt, alloc, order, workers, form, gate, out)),
             Err(ending) => ending,
         },
         Command::Demo { number, workers } => {
             ending_of(write_summary(rt, alloc, number, workers, gate, out))
         }
-        Command::Unknown
-        | Command::Sun(_)
-        | Command::Order
-        | Command::Plain
-        | Command::Check => one_thread::answer(alloc, command, source, out),
+        Command::Unknown | Command::Sun(_) | Command::Order | Command::Plain | Command::Check =>
+            one_thread::answer(alloc, command, source, out),
     }
 }
 

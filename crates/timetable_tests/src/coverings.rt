@@ -28,16 +28,37 @@ const FAJR: &str =
 
 /// The second line's last member, and what is answered: nothing where the line is good.
 const LETTERS: [(&str, &str); 12] = [
-    (r#""tree":"spssspsspspxxxssssspspxxxxxxsssssspkxxxkxxxkxxxxxxkkk""#, ""),
-    (r#""tree":"sxssspsspspxxxssssspspxxxxxxsssssspkxxxkxxxkxxxxxxkkk""#, "fault 6 at 1"),
-    (r#""tree":"spssspsspspxxxssssspspxxxxxxsssssspkxxxkxxxkxxxxxxkk""#, "fault 4"),
-    (r#""tree":"spssspsspspxxxssssspspxxxxxxsssssspkxxxkxxxkxxxxxxkkkp""#, "fault 5"),
-    (r#""tree":"qpssspsspspxxxssssspspxxxxxxsssssspkxxxkxxxkxxxxxxkkk""#, "fault 3 at 0"),
+    (
+        r#""tree":"spssspsspspxxxssssspspxxxxxxsssssspkxxxkxxxkxxxxxxkkk""#,
+        "",
+    ),
+    (
+        r#""tree":"sxssspsspspxxxssssspspxxxxxxsssssspkxxxkxxxkxxxxxxkkk""#,
+        "fault 6 at 1",
+    ),
+    (
+        r#""tree":"spssspsspspxxxssssspspxxxxxxsssssspkxxxkxxxkxxxxxxkk""#,
+        "fault 4",
+    ),
+    (
+        r#""tree":"spssspsspspxxxssssspspxxxxxxsssssspkxxxkxxxkxxxxxxkkkp""#,
+        "fault 5",
+    ),
+    (
+        r#""tree":"qpssspsspspxxxssssspspxxxxxxsssssspkxxxkxxxkxxxxxxkkk""#,
+        "fault 3 at 0",
+    ),
     (r#""runs":"sp3sp2spsp3x5spsp6x6spk3xk3xk6x3k""#, ""),
-    (r#""runs":"1sp3sp2spsp3x5spsp6x6spk3xk3xk6x3k","tree":"q""#, ""),
+    (
+        r#""runs":"1sp3sp2spsp3x5spsp6x6spk3xk3xk6x3k","tree":"q""#,
+        "",
+    ),
     (r#""runs":"sp3sp2spsp3x5spsp6x6spk3xk3xk6x4k""#, "fault 5"),
     (r#""runs":"sp3sp2spsp3x5spsp6x6spk3xk3xk6x3""#, "fault 4"),
-    (r#""runs":"sp3sp2spsp3x5spsp6x6spk3xk3xk6x03k""#, "fault 3 at 31"),
+    (
+        r#""runs":"sp3sp2spsp3x5spsp6x6spk3xk3xk6x03k""#,
+        "fault 3 at 31",
+    ),
     (r#""runs":"1234567890s""#, "fault 3 at 9"),
     (r#""r":284"#, "fault 1"),
 ];
@@ -69,7 +90,15 @@ fn answer<R: Threads + Wait + Sync + AllocGlobal>(
     let mut source = source(alloc, input)?;
     let mut out = sink(alloc, 60_000, &[])?;
     let mut err = sink(alloc, 200, &[])?;
-    let status = run(rt, alloc, &words, &mut source, &mut out, &mut err, &OpenGate);
+    let status = run(
+        rt,
+        alloc,
+        &words,
+        &mut source,
+        &mut out,
+        &mut err,
+        &OpenGate,
+    );
     Ok((status, out, err))
 }
 
@@ -79,7 +108,12 @@ fn an_order_gets_its_covering(rt: HostRuntime) -> Result<(), Fail> {
     let (status, out, _) = answer(&rt, "cover --form 1 --workers 3", ORDER_B.as_bytes())?;
     assert_eq!(rt; status, Status::Done);
     assert_eq!(rt; out.bytes(), wanted.as_bytes());
-    for line in ["cover --form 3", "cover --form", "cover --runs", "check now"] {
+    for line in [
+        "cover --form 3",
+        "cover --form",
+        "cover --runs",
+        "check now",
+    ] {
         let (status, _, _) = answer(&rt, line, ORDER_B.as_bytes())?;
         assert_eq!(rt; status, Status::Usage, "at {line}");
     }
@@ -137,11 +171,26 @@ fn a_changed_line_is_refused_at_its_place(rt: HostRuntime) -> Result<(), Fail> {
 #[test]
 fn a_made_order_is_summed_up(rt: HostRuntime) -> Result<(), Fail> {
     let lines = [
-        ("demo", "demo 1 positions 65 days 30 minutes 210 whole 0 never 0 open 0 sum 182588\n"),
-        ("demo --workers 1 --number 1", "demo 1 positions 65 days 30 minutes 210 whole 0 never 0 open 0 sum 182588\n"),
-        ("demo --number 0", "demo 0 positions 65 days 30 minutes 210 whole 0 never 0 open 0 sum 174962\n"),
-        ("demo --number 77", "demo 77 positions 65 days 30 minutes 210 whole 0 never 0 open 0 sum 166949\n"),
-        ("demo --number 4294967295", "demo 4294967295 positions 65 days 30 minutes 210 whole 0 never 0 open 0 sum 168975\n"),
+        (
+            "demo",
+            "demo 1 positions 65 days 30 minutes 210 whole 0 never 0 open 0 sum 182588\n",
+        ),
+        (
+            "demo --workers 1 --number 1",
+            "demo 1 positions 65 days 30 minutes 210 whole 0 never 0 open 0 sum 182588\n",
+        ),
+        (
+            "demo --number 0",
+            "demo 0 positions 65 days 30 minutes 210 whole 0 never 0 open 0 sum 174962\n",
+        ),
+        (
+            "demo --number 77",
+            "demo 77 positions 65 days 30 minutes 210 whole 0 never 0 open 0 sum 166949\n",
+        ),
+        (
+            "demo --number 4294967295",
+            "demo 4294967295 positions 65 days 30 minutes 210 whole 0 never 0 open 0 sum 168975\n",
+        ),
     ];
     for (line, wanted) in lines {
         let (status, out, _) = answer(&rt, line, b"")?;
