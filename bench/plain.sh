@@ -4,8 +4,8 @@
 # Each order runs three times, and the least processor time counts. The cells that its searches judge are counted by
 # `kernel_bench`, which makes the same ones, and beside them those that a search in tree order would judge. Where
 # valgrind is there, the instructions of one more run are counted, the reading of the order and the writing of the table
-# included, which takes some fifty times as long; they are divided by the cells in tree order, which no order of the
-# search changes. It is given a copy without names, since it doesn't read every compiler's.
+# included, which takes some fifty times as long; they are divided by the judged cells, and by those in tree order, which no
+# order of the search changes. It is given a copy without names, since it doesn't read every compiler's.
 set -euo pipefail
 top=$(cd "$(dirname "$0")/.." && pwd)
 work=$(mktemp -d)
@@ -32,7 +32,8 @@ least_time() {
 instructions() {
     strip -o "$work/stripped" "$program"
     valgrind --tool=callgrind --callgrind-out-file=/dev/null "$work/stripped" plain <"$1" 2>&1 >/dev/null |
-        awk -v cells="$2" '/Collected/ { printf ", %.1f million instructions, %.0f a cell", $NF / 1e6, $NF / cells }'
+        awk -v judged="$2" -v in_order="$3" '/Collected/ {
+            printf ", %.1f million instructions, %.0f a judged cell, %.0f a cell in tree order", $NF / 1e6, $NF / judged, $NF / in_order }'
 }
 
 measure() {
@@ -43,7 +44,7 @@ measure() {
     cells=$("$kernels" cells <"$order")
     in_tree_order=$("$kernels" cells_in_tree_order <"$order")
     if command -v valgrind >/dev/null; then
-        counted=$(instructions "$order" "$in_tree_order")
+        counted=$(instructions "$order" "$cells" "$in_tree_order")
     fi
     echo "$1: $seconds s, $cells cells judged, $in_tree_order in tree order$counted; $(tail -n 1 "$work/table")"
 }
