@@ -7,10 +7,10 @@ use Rattle.std.proofs.lemmas.Int.{ints}
 use Rattle.std.proofs.lemmas.List.Elements.{All-tail}
 use Rattle.fixed_interval.specs.Enclosure.{Enclosure}
 use Rattle.fixed_interval.specs.Grid.{Ends, Range}
-use Rattle.solar_terms.specs.Sun.{SunTerms, exact_sun, grid_sun}
+use Rattle.solar_terms.specs.Sun.{SunTerms}
 use Rattle.solar_terms.specs.SunLaws.{SunSource}
-use Rattle.solar_terms.proofs.SunLaws.{observatory_is_sound}
-use Rattle.solar_terms.proofs.SunWidths.{observatory_is_narrow}
+use Rattle.chosen_sun.specs.Suns.{IsSun, exact_sun_of, grid_sun_of}
+use Rattle.chosen_sun.proofs.SunLaws.{suns_are_sound}
 use Rattle.altitude_test.specs.Conditions.{IsAbove, IsBelow, IsWithin}
 use Rattle.altitude_test.specs.Tolerance.{IsNarrowRange, IsSmallest, ShowsNear}
 use Rattle.altitude_test.specs.Verdicts.{ShowsSide}
@@ -38,7 +38,7 @@ use Rattle.cell_judge.specs.Points.{IsPoint, point_of}
 use Rattle.cell_judge.specs.Scenes.{FailsAt, HoldsAt, IsNearAt, IsOpenAt, IsPlaceOf, IsRankOf, IsRefutedAt, IsTrueVerdict, Scene}
 use Rattle.cell_judge.specs.Skies.{between, grid_value, lies_above, lies_below, minutes_at, places_at, row_at, shows_failed, shows_held, verdict_at, verdict_by, verdict_on, verdict_with}
 use Rattle.cell_judge.specs.Limits.{IsInLimits}
-use Rattle.cell_judge.specs.SkyLaws.{IsRow, IsSun, NamedPlacesArePoints, ProblemsAreRows, SkiesTellTheTruth, VerdictsOfEverySunAreTrue, scene_at}
+use Rattle.cell_judge.specs.SkyLaws.{IsRow, NamedPlacesArePoints, ProblemsAreRows, SkiesTellTheTruth, VerdictsOfEverySunAreTrue, scene_at}
 use Rattle.cell_judge.proofs.EntryLaws.{conditions_are_one_sided}
 use Rattle.cell_judge.proofs.NamedLemmas.{named_is_point}
 use Rattle.cell_judge.proofs.PointLemmas.{place_of_point}
@@ -199,14 +199,11 @@ verdicts_of_every_sun_are_true sun grid is_sun row is_row polygons faultless cel
 
 -- ---- the sky
 
-observatory_is_sun : IsSun exact_sun grid_sun
-observatory_is_sun = record { source = observatory_is_sound.source; holds = observatory_is_sound.grid; narrow = observatory_is_narrow }
-
 pub skies_tell_the_truth : SkiesTellTheTruth
-skies_tell_the_truth polygons rows root faultless is_root k known is_row t is_task same =
-    let P : ℕ → Type 0 = λ n. IsTrueVerdict (scene_at polygons rows k) t.cell (verdict_on grid_sun (row_at rows n) polygons t.cell) in
+skies_tell_the_truth sun polygons rows root faultless is_root k known is_row t is_task same =
+    let P : ℕ → Type 0 = λ n. IsTrueVerdict (scene_at sun polygons rows k) t.cell (verdict_on (grid_sun_of sun) (row_at rows n) polygons t.cell) in
     subst P (sym same)
-    (verdicts_of_every_sun_are_true exact_sun grid_sun observatory_is_sun (row_at rows k) is_row polygons faultless t.cell
+    (verdicts_of_every_sun_are_true (exact_sun_of sun) (grid_sun_of sun) (suns_are_sound sun) (row_at rows k) is_row polygons faultless t.cell
     (record { root = root; is_root = is_root; of_root = is_task.cell }))
 
 row_is : (q : Problem) → IsInLimits (row_of q) → IsRow (row_of q)

@@ -9,6 +9,7 @@ use Rattle.fixed_interval.proofs.Inclusion.{range_ordered}
 use Rattle.fixed_interval.proofs.EnclosureLaws.{LiesIn_refl}
 use Rattle.solar_terms.specs.Sun.{SunTerms}
 use Rattle.solar_terms.specs.SunLaws.{SunSource}
+use Rattle.chosen_sun.specs.Suns.{IsSun}
 use Rattle.altitude_test.specs.Conditions.{Spot}
 use Rattle.altitude_test.specs.Tolerance.{IsNarrowRange, IsSmallest, ShowsNear}
 use Rattle.altitude_test.specs.Values.{Box}
@@ -30,7 +31,6 @@ use Rattle.cell_split.specs.Laws.{box_of}
 use Rattle.cell_judge.specs.Conditions.{angles, spot_of, tolerance_bits, value_at}
 use Rattle.cell_judge.specs.Scenes.{IsRankOf}
 use Rattle.cell_judge.specs.Skies.{between, grid_value, minutes_at, places_at}
-use Rattle.cell_judge.specs.SkyLaws.{IsSun}
 
 -- ---- a place of the box and a rank of the cell are among those of the enclosure
 

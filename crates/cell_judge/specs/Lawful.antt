@@ -2,7 +2,9 @@
 use Rattle.std.specs.Prelude.{◌≡◌, Bool, true, false, if◌then◌else◌, List, Option, Some, None, refl}
 use Rattle.std.proofs.lemmas.Bool.{false≢true}
 use Rattle.fixed_interval.specs.Grid.{Range}
-use Rattle.solar_terms.specs.Sun.{SunTerms, grid_sun}
+use Rattle.solar_terms.specs.Sun.{SunTerms}
+use Rattle.sun_choice.specs.declared.choice.SunChoice.{SunChoice}
+use Rattle.chosen_sun.specs.Suns.{grid_sun_of}
 use Rattle.method_table.specs.Row.{Row}
 use Rattle.region.specs.declared.points.Point.{Point}
 use Rattle.region.specs.Plane.{Place}
@@ -53,12 +55,12 @@ opens grid row cell (Some p) e =
     open_smallest (shows_held row.kind value) (shows_failed row.kind value) (is_smallest cell) (point_of p) e
 
 abbrev pub SkiesAreLawful : Type 0
-SkiesAreLawful = (polygons : List Polygon) (rows : List Row) (root : Cell) → IsRoot root → IsLawful (sky_content polygons rows root)
+SkiesAreLawful = (sun : SunChoice) (polygons : List Polygon) (rows : List Row) (root : Cell) → IsRoot root → IsLawful (sky_content sun polygons rows root)
 
 pub skies_are_lawful : SkiesAreLawful
 unfolding verdict_on
-skies_are_lawful polygons rows root is = record {
+skies_are_lawful sun polygons rows root is = record {
   root = is;
-  ends = λ t task smallest. ends grid_sun (row_at rows t.problem) t.cell (named (box_of t.cell) polygons) smallest;
-  open_last = λ t task open'. opens grid_sun (row_at rows t.problem) t.cell (named (box_of t.cell) polygons) open';
+  ends = λ t task smallest. ends (grid_sun_of sun) (row_at rows t.problem) t.cell (named (box_of t.cell) polygons) smallest;
+  open_last = λ t task open'. opens (grid_sun_of sun) (row_at rows t.problem) t.cell (named (box_of t.cell) polygons) open';
 }

@@ -2,7 +2,9 @@
 -- on which the enclosure of the condition's value lies over the box and the minutes of the ranks.
 use Rattle.std.specs.Prelude.{ℕ, ℤ, pos, int_lt, Bool, if◌then◌else◌, List, length, slice_index_or, Option, Some, None}
 use Rattle.fixed_interval.specs.Grid.{Ends, Range}
-use Rattle.solar_terms.specs.Sun.{SunTerms, grid_sun}
+use Rattle.solar_terms.specs.Sun.{SunTerms}
+use Rattle.sun_choice.specs.declared.choice.SunChoice.{SunChoice}
+use Rattle.chosen_sun.specs.Suns.{grid_sun_of}
 use Rattle.altitude_test.specs.Values.{Box, grid_altitude_value, grid_meridian_value}
 use Rattle.asr_test.specs.Asr.{grid_asr_value}
 use Rattle.method_table.specs.declared.problem.Column.TheVariants.{Dhuhr}
@@ -86,10 +88,10 @@ verdict_on grid row polygons cell = verdict_by grid row cell (named (box_of cell
 abbrev pub row_at : List Row → ℕ → Row
 row_at rows k = slice_index_or rows k (row Dhuhr Start (pos 0) (pos 0) Past (pos 0))
 
--- the judge of a day's rows over a district, by the sun of the US Naval Observatory
-abbrev pub sky_content : List Polygon → List Row → Cell → Content
-sky_content polygons rows root = record {
+-- the judge of a day's rows over a district, under the sun of this choice
+abbrev pub sky_content : SunChoice → List Polygon → List Row → Cell → Content
+sky_content sun polygons rows root = record {
   problems = length rows;
   root = root;
-  verdict = λ t. verdict_on grid_sun (row_at rows t.problem) polygons t.cell;
+  verdict = λ t. verdict_on (grid_sun_of sun) (row_at rows t.problem) polygons t.cell;
 }

@@ -1,9 +1,10 @@
 -- What is true of the judge of the sky, as sentences.
-use Rattle.std.specs.Prelude.{◌≡◌, ℕ, ◌<◌, ◌≤◌, pos, ◌+ℤ◌, List, length, map, None, Some, unsigned_abs}
+use Rattle.std.specs.Prelude.{◌≡◌, ℕ, ◌<◌, pos, ◌+ℤ◌, List, length, map, None, Some}
 use Rattle.fixed_interval.specs.Grid.{Range}
-use Rattle.solar_terms.specs.Sun.{SunTerms, exact_sun}
-use Rattle.solar_terms.specs.SunLaws.{SunSource, IsSunSource, GridHoldsSun}
-use Rattle.solar_terms.specs.SunWidths.{IsNarrowSun}
+use Rattle.solar_terms.specs.Sun.{SunTerms}
+use Rattle.solar_terms.specs.SunLaws.{SunSource}
+use Rattle.sun_choice.specs.declared.choice.SunChoice.{SunChoice}
+use Rattle.chosen_sun.specs.Suns.{IsSun, exact_sun_of}
 use Rattle.method_table.specs.declared.problem.Problem.{Problem}
 use Rattle.method_table.specs.Kind.{IsKind}
 use Rattle.method_table.specs.Row.{Row, row_of}
@@ -21,12 +22,6 @@ use Rattle.cell_judge.specs.Points.{point_of}
 use Rattle.cell_judge.specs.Scenes.{Scene, IsTrueVerdict}
 use Rattle.cell_judge.specs.Skies.{row_at, sky_content, verdict_on}
 
--- a sun, and its terms on the grid, which hold it and are narrow at one minute
-pub record IsSun (sun : SunSource) (grid : Range → SunTerms) : Type 0 where
-  pub source : IsSunSource sun
-  pub holds : GridHoldsSun sun grid
-  pub narrow : (r : Range) → r.hi ≡ r.lo → unsigned_abs r.lo ≤ 53_200_000 → IsNarrowSun (grid r)
-
 -- a row like those of the table: its condition in range, and a frame of 720 minutes within the limits of the sun
 pub record IsRow (row : Row) : Type 0 where
   pub kind : IsKind row.kind
@@ -40,16 +35,16 @@ VerdictsOfEverySunAreTrue =
     (polygons : List Polygon) → first_fault polygons ≡ None → (cell : Cell) → IsCell cell →
     IsTrueVerdict (record { sun = sun; row = row; polygons = polygons }) cell (verdict_on grid row polygons cell)
 
--- a problem over a district under the sun of the US Naval Observatory
-abbrev pub scene_at : List Polygon → List Row → ℕ → Scene
-scene_at polygons rows k = record { sun = exact_sun; row = row_at rows k; polygons = polygons }
+-- a problem over a district under the sun of this choice
+abbrev pub scene_at : SunChoice → List Polygon → List Row → ℕ → Scene
+scene_at sun polygons rows k = record { sun = exact_sun_of sun; row = row_at rows k; polygons = polygons }
 
 -- the verdicts of a sky are true
 abbrev pub SkiesTellTheTruth : Type 0
 SkiesTellTheTruth =
-    (polygons : List Polygon) (rows : List Row) (root : Cell) → first_fault polygons ≡ None → IsRoot root →
+    (sun : SunChoice) (polygons : List Polygon) (rows : List Row) (root : Cell) → first_fault polygons ≡ None → IsRoot root →
     (k : ℕ) → k < length rows → IsRow (row_at rows k) →
-    TellsTruth (sky_content polygons rows root) k (scene_at polygons rows k)
+    TellsTruth (sky_content sun polygons rows root) k (scene_at sun polygons rows k)
 
 -- the problems of a sky are such rows
 abbrev pub ProblemsAreRows : Type 0

@@ -1,6 +1,6 @@
 // The judgement of a cell for any problem, whichever day the sky is turned to.
 ghost use Rattle.std.specs.Prelude.{◌≡◌};
-ghost use Rattle.solar_terms.specs.Sun.{grid_sun};
+ghost use Rattle.chosen_sun.specs.Suns.{grid_sun_of};
 ghost use Rattle.method_table.specs.Row.{row_of};
 ghost use Rattle.cell_split.specs.Cells.{IsCellOf};
 ghost use Rattle.cell_judge.specs.Limits.{IsInLimits};
@@ -21,10 +21,10 @@ impl Sky {
         requires sine { IsSineOf problem.now.kind sine }
         requires cell { IsCellOf self.now.root cell.now }
         requires limits { IsInLimits (row_of problem.now) }
-        ensures { result ≡ verdict_on grid_sun (row_of problem.now) self.now.district cell.now }
+        ensures { result ≡ verdict_on (grid_sun_of self.now.sun) (row_of problem.now) self.now.district cell.now }
     {
         match self.named(cell) {
-            Some(p) => verdict_for(problem, sine, cell, p),
+            Some(p) => verdict_for(self.sun, problem, sine, cell, p),
             None => Verdict::Outside,
         }
     }

@@ -1,6 +1,7 @@
 // What a sky is made of, and how it judges.
 ghost use Rattle.std.specs.Prelude.{◌≡◌, ◌<◌, IfOk, Some, slice_get};
-ghost use Rattle.solar_terms.specs.Sun.{grid_sun};
+ghost use Rattle.chosen_sun.specs.Suns.{grid_sun_of};
+ghost use Rattle.sun_choice.specs.declared.choice.SunChoice.TheVariants.{Usno};
 ghost use Rattle.method_table.specs.Row.{row_of};
 ghost use Rattle.region.specs.Extent.{latitudes, least, longitudes};
 ghost use Rattle.cell_split.specs.Cells.{IsCell, IsRoot, root_at};
@@ -20,6 +21,7 @@ use method_table::Problem;
 use no_memory::NoMemory;
 use region::{District, Point};
 use std::alloc::Global;
+use sun_choice::SunChoice;
 
 /// The root at the least longitude and the least latitude of a district.
 pub(crate) fn root_over(district: &District) -> Cell
@@ -32,13 +34,13 @@ pub(crate) fn root_over(district: &District) -> Cell
 }
 
 impl Sky {
-    /// The sky over a district for the problems of a day, with the root at its least longitude and
+    /// The sky over a district for the problems of a day, under the sun of the US Naval Observatory, with the root at its least longitude and
     /// least latitude. Every minute of their frames is within 53,200,000 minutes of 2000-01-01 12:00
     /// Universal Time.
     pub fn new(alloc: Global, district: District, problems: [Problem; 7]) -> Result<Sky, NoMemory>
         requires { AreInLimits problems }
         ensures { IfOk result
-            (IsSkyOf district problems (root_at (least (longitudes district)) (least (latitudes district)))) }
+            (IsSkyOf Usno district problems (root_at (least (longitudes district)) (least (latitudes district)))) }
     {
         let root = root_over(&district);
         Sky::new_in(alloc, district, problems, root)
@@ -55,12 +57,13 @@ impl Sky {
         requires root { IsRoot root }
         requires over { IsOver root district }
         requires limits { AreInLimits problems }
-        ensures { IfOk result (IsSkyOf district problems root) }
+        ensures { IfOk result (IsSkyOf Usno district problems root) }
     {
         let strips = district.strips(alloc, root.y)?;
         let large = large_places(alloc, &district, &root)?;
         let sines = sines_of(&problems);
         Ok(Sky {
+            sun: SunChoice::Usno,
             district,
             strips,
             large,
@@ -70,10 +73,18 @@ impl Sky {
         })
     }
 
+    /// The same sky under the sun of this choice.
+    pub fn under(mut self, sun: SunChoice) -> Sky
+        ensures { IsSkyOf sun self.district self.problems self.root result }
+    {
+        self.sun = sun;
+        self
+    }
+
     /// Turns to the problems of another day, under the same condition on their minutes.
     pub fn turn_to(&mut self, problems: [Problem; 7])
         requires { AreInLimits problems }
-        ensures { IsSkyOf self.old.district problems self.old.root self.new }
+        ensures { IsSkyOf self.old.sun self.old.district problems self.old.root self.new }
     {
         self.sines = sines_of(&problems);
         self.problems = problems;
@@ -96,14 +107,20 @@ impl Sky {
 }
 
 /// The verdict on a cell whose box has the place `p` of the district.
-pub(crate) fn verdict_for(problem: &Problem, sine: Interval, cell: &Cell, p: Point) -> Verdict
+pub(crate) fn verdict_for(
+    sun: SunChoice,
+    problem: &Problem,
+    sine: Interval,
+    cell: &Cell,
+    p: Point,
+) -> Verdict
     requires sine { IsSineOf problem.now.kind sine }
     requires cell { IsCell cell.now }
     requires limits { IsInLimits (row_of problem.now) }
-    ensures { result ≡ verdict_with grid_sun (row_of problem.now) cell.now p }
+    ensures { result ≡ verdict_with (grid_sun_of sun) (row_of problem.now) cell.now p }
 {
     let minutes = minutes_at(problem, cell);
-    let value = value(problem.kind, minutes, places_at(cell), sine);
+    let value = value(sun, problem.kind, minutes, places_at(cell), sine);
     verdict_at(problem.kind, value, cell, p)
 }
 
@@ -113,9 +130,9 @@ impl Judge for Sky {
     ghost use Rattle.cell_judge.specs.Skies.{sky_content};
     ghost use Rattle.cell_judge.specs.Lawful.{skies_are_lawful};
 
-    ghost content = { λ sky. sky_content sky.district (map row_of sky.problems) sky.root };
+    ghost content = { λ sky. sky_content sky.sun sky.district (map row_of sky.problems) sky.root };
 
-    ghost lawful = { λ sky. skies_are_lawful sky.district (map row_of sky.problems) sky.root sky.is_root };
+    ghost lawful = { λ sky. skies_are_lawful sky.sun sky.district (map row_of sky.problems) sky.root sky.is_root };
 
     fn problems(&self) -> u32 {
         7

@@ -1,7 +1,9 @@
 // The judgement of the four quarters of a cell, which share the sun, two latitudes and two ranges of sidereal times.
 ghost use Rattle.std.specs.Prelude.{◌≡◌, ◌∷◌, [], map, ◌+ℤ◌, IfSome};
+ghost use Rattle.fixed_interval.specs.Grid.{Range};
 ghost use Rattle.fixed_interval.specs.Interval.{ends};
-ghost use Rattle.solar_terms.specs.Sun.{grid_sun, minutes_of, terms_of};
+ghost use Rattle.solar_terms.specs.Sun.{SunTerms, minutes_of, terms_of};
+ghost use Rattle.chosen_sun.specs.Suns.{grid_sun_of};
 ghost use Rattle.altitude_test.specs.Values.{grid_latitude, grid_sidereal_time};
 ghost use Rattle.method_table.specs.Kind.{IsKind};
 ghost use Rattle.method_table.specs.Row.{row_of};
@@ -20,10 +22,10 @@ use altitude_test::{
 };
 use asr_test::asr_value_by;
 use cell_split::{Cell, Judged, Verdict, children};
+use chosen_sun::chosen_sun;
 use fixed_interval::Interval;
 use method_table::{Kind, Problem};
 use region::Point;
-use solar_terms::observatory::sun;
 use solar_terms::{Minutes, Sun};
 
 // The four quarters of a cell.
@@ -108,7 +110,7 @@ fn value_by(kind: Kind, sun: &Sun, phi: Direction, theta: Direction, sine: Inter
     }
 }
 
-// The value of a kind over a cell. The meridian value asks for no latitude.
+// The value of a kind over a cell, whichever sun has the scene's terms. The meridian value asks for no latitude.
 fn value_over(
     kind: Kind,
     scene: &Scene,
@@ -118,11 +120,10 @@ fn value_over(
 ) -> Interval
     requires kind { IsKind kind }
     requires sine { IsSineOf kind scene.now.sine }
-    requires sun { terms_of scene.now.sun ≡ grid_sun (minutes_of scene.now.minutes) }
     requires cell { IsCell cell.now }
     requires latitude { IfSome phi.old (IsDirectionOf (grid_latitude (places_at cell.now))) }
     requires sidereal_time { IfSome theta.old (IsDirectionOf (grid_sidereal_time (terms_of scene.now.sun) (minutes_of scene.now.minutes) (places_at cell.now))) }
-    ensures value { ends result ≡ grid_value grid_sun kind (minutes_of scene.now.minutes) (places_at cell.now) }
+    ensures value { (grid : Range → SunTerms) → terms_of scene.now.sun ≡ grid (minutes_of scene.now.minutes) → ends result ≡ grid_value grid kind (minutes_of scene.now.minutes) (places_at cell.now) }
     ensures latitude { IfSome phi.new (IsDirectionOf (grid_latitude (places_at cell.now))) }
     ensures sidereal_time { IfSome theta.new (IsDirectionOf (grid_sidereal_time (terms_of scene.now.sun) (minutes_of scene.now.minutes) (places_at cell.now))) }
 {
@@ -162,11 +163,11 @@ impl Sky {
     ) -> Judged
         requires sine { IsSineOf problem.now.kind scene.now.sine }
         requires minutes { minutes_of scene.now.minutes ≡ minutes_at (row_of problem.now) cell.now }
-        requires sun { terms_of scene.now.sun ≡ grid_sun (minutes_of scene.now.minutes) }
+        requires sun { terms_of scene.now.sun ≡ grid_sun_of self.now.sun (minutes_of scene.now.minutes) }
         requires cell { IsCellOf self.now.root cell.now }
         requires latitude { IfSome phi.old (IsDirectionOf (grid_latitude (places_at cell.now))) }
         requires sidereal_time { IfSome theta.old (IsDirectionOf (grid_sidereal_time (terms_of scene.now.sun) (minutes_of scene.now.minutes) (places_at cell.now))) }
-        ensures verdict { result.verdict ≡ verdict_on grid_sun (row_of problem.now) self.now.district cell.now }
+        ensures verdict { result.verdict ≡ verdict_on (grid_sun_of self.now.sun) (row_of problem.now) self.now.district cell.now }
         ensures latitude { IfSome phi.new (IsDirectionOf (grid_latitude (places_at cell.now))) }
         ensures sidereal_time { IfSome theta.new (IsDirectionOf (grid_sidereal_time (terms_of scene.now.sun) (minutes_of scene.now.minutes) (places_at cell.now))) }
     {
@@ -191,11 +192,11 @@ impl Sky {
         requires cell { IsCellOf self.now.root cell.now }
         requires quartered { (split cell.now).count ≡ 4 }
         requires limits { IsInLimits (row_of problem.now) }
-        ensures { map (λ q. q.verdict) result ≡ map (verdict_on grid_sun (row_of problem.now) self.now.district) (children_of cell.now) }
+        ensures { map (λ q. q.verdict) result ≡ map (verdict_on (grid_sun_of self.now.sun) (row_of problem.now) self.now.district) (children_of cell.now) }
     {
         let quarters = quarters_of(cell);
         let minutes = minutes_at(problem, cell);
-        let sun = sun(minutes);
+        let sun = chosen_sun(self.sun, minutes);
         let scene = Scene { sine, minutes, sun };
         let (mut south, mut north) = (None, None);
         let (mut west, mut east) = (None, None);

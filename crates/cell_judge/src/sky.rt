@@ -11,11 +11,14 @@ use cell_split::Cell;
 use fixed_interval::Interval;
 use method_table::Problem;
 use region::{District, Strips};
+use sun_choice::SunChoice;
 
 /// A district under the sky of one day: the judge of the cells of a root over it, for each problem of
 /// that day.
 #[derive(Drop)]
 pub struct Sky {
+    /// The sun that it judges by.
+    pub(crate) sun: SunChoice,
     pub(crate) district: District,
     pub(crate) strips: Strips,
     /// The places that are named for the large boxes of the root.

@@ -1,7 +1,8 @@
 // The enclosure of a condition's value over a cell.
 ghost use Rattle.std.specs.Prelude.{◌≡◌, ◌≤◌};
 ghost use Rattle.fixed_interval.specs.Interval.{ends};
-ghost use Rattle.solar_terms.specs.Sun.{grid_sun, minutes_of};
+ghost use Rattle.solar_terms.specs.Sun.{minutes_of};
+ghost use Rattle.chosen_sun.specs.Suns.{grid_sun_of};
 ghost use Rattle.altitude_test.specs.Values.{box_of};
 ghost use Rattle.method_table.specs.Kind.{IsKind};
 ghost use Rattle.method_table.specs.Row.{row_of, time_of};
@@ -13,10 +14,11 @@ ghost use Rattle.cell_judge.specs.Skies.{grid_value, minutes_at, places_at};
 use altitude_test::{Place, altitude_sine, meridian_value};
 use asr_test::asr_value;
 use cell_split::{Cell, rect_of};
+use chosen_sun::chosen_sun;
 use fixed_interval::Interval;
 use method_table::{Kind, Problem, Side, minute_of};
 use solar_terms::Minutes;
-use solar_terms::observatory::sun;
+use sun_choice::SunChoice;
 
 // The minute of a rank, since 2000-01-01 12:00 Universal Time.
 fn time_of(problem: &Problem, rank: u32) -> i64
@@ -50,14 +52,20 @@ pub(crate) fn places_at(cell: &Cell) -> Place
     Place::new(r.x0, r.x1, r.y0, r.y1)
 }
 
-/// The enclosure of a kind's value over the minutes and the places, with the sine of its angles.
+/// The enclosure of a kind's value over the minutes and the places under a sun, with the sine of its angles.
 #[tactic(auto, unfolding(crate::specs::Skies::grid_value, altitude_test::specs::Values::grid_altitude_value))]
-pub(crate) fn value(kind: Kind, minutes: Minutes, places: Place, sine: Interval) -> Interval
+pub(crate) fn value(
+    sun: SunChoice,
+    kind: Kind,
+    minutes: Minutes,
+    places: Place,
+    sine: Interval,
+) -> Interval
     requires kind { IsKind kind }
     requires sine { IsSineOf kind sine }
-    ensures { ends result ≡ grid_value grid_sun kind (minutes_of minutes) (box_of places) }
+    ensures { ends result ≡ grid_value (grid_sun_of sun) kind (minutes_of minutes) (box_of places) }
 {
-    let sun = sun(minutes);
+    let sun = chosen_sun(sun, minutes);
     match kind {
         Kind::Above { .. } => altitude_sine(&sun, minutes, places).sum(sine),
         Kind::Below { .. } => altitude_sine(&sun, minutes, places).sum(sine),

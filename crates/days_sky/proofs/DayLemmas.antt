@@ -4,7 +4,8 @@ use Rattle.std.specs.List.{AllByRecursion as Every}
 use Rattle.std.proofs.lemmas.List.{get_or-append_right, get_or-map, get_or_append_left, length-map}
 use Rattle.std.proofs.lemmas.List.Elements.{recursion_from_All}
 use Rattle.std.proofs.lemmas.Simd.{map-map}
-use Rattle.solar_terms.specs.Sun.{grid_sun}
+use Rattle.sun_choice.specs.declared.choice.SunChoice.{SunChoice}
+use Rattle.chosen_sun.specs.Suns.{grid_sun_of}
 use Rattle.method_table.specs.declared.problem.Problem.{Problem}
 use Rattle.method_table.specs.Row.{Row, row_of}
 use Rattle.region.specs.Rings.{Polygon}
@@ -55,26 +56,26 @@ row_is days n d e inside =
     ∙ get_or-map row_of (get_or days (n / 7) d).problems (n % 7) e _ (omega (arith, known, counted)))))
 
 -- the verdict on a task, by the row of its day
-pub judged : (polygons : List Polygon) (days : List Day) (n : ℕ) (cell : Cell) (d : Day) (e : Problem) (v : Verdict) → n / 7 < length days
-    → v ≡ verdict_on grid_sun (row_of (get_or (get_or days (n / 7) d).problems (n % 7) e)) polygons cell
-    → v ≡ verdict_on grid_sun (row_at (all_rows (map rows_of_day days)) n) polygons cell
-judged polygons days n cell d e v inside is =
-    is ∙ ap (λ (row : Row). verdict_on grid_sun row polygons cell) (row_is days n d e inside)
+pub judged : (sun : SunChoice) (polygons : List Polygon) (days : List Day) (n : ℕ) (cell : Cell) (d : Day) (e : Problem) (v : Verdict) → n / 7 < length days
+    → v ≡ verdict_on (grid_sun_of sun) (row_of (get_or (get_or days (n / 7) d).problems (n % 7) e)) polygons cell
+    → v ≡ verdict_on (grid_sun_of sun) (row_at (all_rows (map rows_of_day days)) n) polygons cell
+judged sun polygons days n cell d e v inside is =
+    is ∙ ap (λ (row : Row). verdict_on (grid_sun_of sun) row polygons cell) (row_is days n d e inside)
 
 -- and those on its quarters
-pub quarters_judged : (polygons : List Polygon) (root : Cell) (days : List Day) (t : Task) (d : Day) (e : Problem) (vs : List Verdict) → t.problem / 7 < length days
-    → vs ≡ map (verdict_on grid_sun (row_of (get_or (get_or days (t.problem / 7) d).problems (t.problem % 7) e)) polygons) (children_of t.cell)
-    → vs ≡ map (days_content polygons (map rows_of_day days) root).verdict (child_tasks t)
-quarters_judged polygons root days t d e vs inside is =
+pub quarters_judged : (sun : SunChoice) (polygons : List Polygon) (root : Cell) (days : List Day) (t : Task) (d : Day) (e : Problem) (vs : List Verdict) → t.problem / 7 < length days
+    → vs ≡ map (verdict_on (grid_sun_of sun) (row_of (get_or (get_or days (t.problem / 7) d).problems (t.problem % 7) e)) polygons) (children_of t.cell)
+    → vs ≡ map (days_content sun polygons (map rows_of_day days) root).verdict (child_tasks t)
+quarters_judged sun polygons root days t d e vs inside is =
     is
-    ∙ (ap (λ (row : Row). map (verdict_on grid_sun row polygons) (children_of t.cell)) (row_is days t.problem d e inside)
-    ∙ sym (map-map (days_content polygons (map rows_of_day days) root).verdict (task_of t.problem) (children_of t.cell)))
+    ∙ (ap (λ (row : Row). map (verdict_on (grid_sun_of sun) row polygons) (children_of t.cell)) (row_is days t.problem d e inside)
+    ∙ sym (map-map (days_content sun polygons (map rows_of_day days) root).verdict (task_of t.problem) (children_of t.cell)))
 
 pub own_trees : DaysHaveTheirOwnTrees
-own_trees polygons root is days each i rows inside own k known =
+own_trees sun polygons root is days each i rows inside own k known =
     let day : row_at (all_rows days) (7 * i + k) ≡ row_at rows k =
     row_of_day days i k rows _ (recursion_from_All IsWhole days each) inside known ∙ ap (λ (l : List Row). row_at l k) own in
-    renumbered_trees (days_content polygons days root) (sky_content polygons rows root) (skies_are_lawful polygons rows root is) (7 * i + k) k (record {
+    renumbered_trees (days_content sun polygons days root) (sky_content sun polygons rows root) (skies_are_lawful sun polygons rows root is) (7 * i + k) k (record {
       same_root = refl;
-      same_verdicts = λ cell in'. ap (λ (row : Row). verdict_on grid_sun row polygons cell) day;
+      same_verdicts = λ cell in'. ap (λ (row : Row). verdict_on (grid_sun_of sun) row polygons cell) day;
     })

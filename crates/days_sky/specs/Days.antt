@@ -1,5 +1,6 @@
 -- The judge of several days over one district.
 use Rattle.std.specs.Prelude.{◌≡◌, ℕ, ◌+◌, ◌*◌, ◌<◌, List, length, map, flat_map, slice_index_or, All}
+use Rattle.sun_choice.specs.declared.choice.SunChoice.{SunChoice}
 use Rattle.method_table.specs.Row.{Row, row_of}
 use Rattle.region.specs.Rings.{Polygon}
 use Rattle.cell_split.specs.declared.cell.Cell.{Cell}
@@ -16,13 +17,13 @@ rows_of_day day = map row_of day.problems
 abbrev pub all_rows : List (List Row) → List Row
 all_rows days = flat_map (λ rows. rows) days
 
--- the judge of the rows of several days over a district
-abbrev pub days_content : List Polygon → List (List Row) → Cell → Content
-days_content polygons days root = sky_content polygons (all_rows days) root
+-- the judge of the rows of several days over a district, under the sun of this choice
+abbrev pub days_content : SunChoice → List Polygon → List (List Row) → Cell → Content
+days_content sun polygons days root = sky_content sun polygons (all_rows days) root
 
 -- of days of seven rows each, problem 7 i + k has the tree of problem k of the sky of day i
 abbrev pub DaysHaveTheirOwnTrees : Type 0
 DaysHaveTheirOwnTrees =
-    (polygons : List Polygon) (root : Cell) → IsRoot root → (days : List (List Row)) → All (λ rows. length rows ≡ 7) days →
+    (sun : SunChoice) (polygons : List Polygon) (root : Cell) → IsRoot root → (days : List (List Row)) → All (λ rows. length rows ≡ 7) days →
     (i : ℕ) (rows : List Row) → i < length days → slice_index_or days i rows ≡ rows → (k : ℕ) → k < 7 →
-    HasTreeOf (days_content polygons days root) (7 * i + k) (sky_content polygons rows root) k
+    HasTreeOf (days_content sun polygons days root) (7 * i + k) (sky_content sun polygons rows root) k

@@ -5,8 +5,8 @@ use crate::day::Day;
 use cell_judge::Sky;
 use cell_split::{Cell, Judge, Judged, Task, Verdict};
 
-/// The district of a sky under several days, over the sky's root: problem `7 * i + k` is problem `k` of
-/// day `i`. The sky's own day takes no part.
+/// The district of a sky under several days, over the sky's root and under its sun: problem `7 * i + k`
+/// is problem `k` of day `i`. The sky's own day takes no part.
 #[derive(Drop)]
 pub struct DaysSky<'a> {
     sky: &'a Sky,
@@ -29,9 +29,9 @@ impl Judge for DaysSky<'_> {
     ghost use Rattle.cell_judge.specs.Lawful.{skies_are_lawful};
     ghost use Rattle.days_sky.specs.Days.{all_rows, days_content, rows_of_day};
 
-    ghost content = { λ j. days_content j.sky.now.district (map rows_of_day j.days.now) j.sky.now.root };
+    ghost content = { λ j. days_content j.sky.now.sun j.sky.now.district (map rows_of_day j.days.now) j.sky.now.root };
 
-    ghost lawful = { λ j. skies_are_lawful j.sky.now.district (all_rows (map rows_of_day j.days.now)) j.sky.now.root j.sky.now.is_root };
+    ghost lawful = { λ j. skies_are_lawful j.sky.now.sun j.sky.now.district (all_rows (map rows_of_day j.days.now)) j.sky.now.root j.sky.now.is_root };
 
     fn problems(&self) -> u32 {
         7 * self.days.len() as u32

@@ -5,12 +5,14 @@ ghost use Rattle.cell_judge.specs.Limits.{AreInLimits};
 use cell_judge::Sky;
 use cell_split::{Cell, Judge, Task, Verdict, root_at, within};
 use district_set::SetSky;
+use meeus_sky::MeeusSky;
 use method_table::{Asr, Method, Problem, problems};
 use night_portion::{Few, night_problems, repeated};
 use region::{District, RegionFault};
 use std::alloc::Global;
 use std::process::Abort;
 use std::test::Fail;
+use sun_choice::SunChoice;
 
 // 2000-01-01, counted from 1970-01-01.
 const DAY: i32 = 10_957;
@@ -359,6 +361,36 @@ fn a_sky_turns_to_another_day(rt: HostRuntime) -> Result<(), Fail> {
     assert_eq!(rt; told(judged(&rt, &sky, 2, noon)).0, "refuted");
     assert_eq!(rt; sky.problem(2).base, 180 * 1440 - 720);
     assert_eq!(rt; sky.root(), root);
+    Ok(())
+}
+
+// Two weeks on, Isha is at 19:23 by the sun of the observatory and at 19:22 by that of Meeus: ranks 443 and 442.
+#[test]
+fn the_sky_of_meeus_judges_otherwise(rt: HostRuntime) -> Result<(), Fail> {
+    let problems = problems_of(DAY + 14, 720);
+    let sky = Sky::new(rt.alloc(), district(rt.alloc(), POINT)?, problems)?;
+    holds_from(&rt, &sky, 6, 443);
+    holds_from(&rt, &sky.under(SunChoice::Meeus), 6, 442);
+    let meeus = MeeusSky::new(rt.alloc(), district(rt.alloc(), POINT)?, problems)?;
+    assert_eq!(rt; meeus.district().positions(), 4);
+    holds_from(&rt, &meeus, 6, 442);
+    Ok(())
+}
+
+#[test]
+fn the_sky_of_meeus_turns_to_another_day(rt: HostRuntime) -> Result<(), Fail> {
+    let place = district(rt.alloc(), POINT)?;
+    assert!(rt; place.west() == 100_000);
+    assert!(rt; place.east() == 100_000);
+    assert!(rt; place.south() == 0);
+    assert!(rt; place.north() == 0);
+    let root = root_at(100_000, 0);
+    let mut sky = MeeusSky::new_in(rt.alloc(), place, problems_of(DAY, 720), root)?;
+    assert_eq!(rt; sky.root(), root);
+    holds_from(&rt, &sky, 6, 438);
+    sky.turn_to(problems_of(DAY + 14, 720));
+    assert_eq!(rt; sky.problem(6).base, 14 * 1440 - 720);
+    holds_from(&rt, &sky, 6, 442);
     Ok(())
 }
 

@@ -9,8 +9,8 @@ use Rattle.method_table.specs.declared.method.Method.{Method}
 use Rattle.method_table.specs.declared.problem.Problem.{Problem}
 use Rattle.method_table.specs.Method.{asr_word, method_word}
 use Rattle.method_table.specs.Row.{Row, column_word, row_of}
-use Rattle.year_table.specs.declared.head.SunChoice.{SunChoice}
-use Rattle.year_table.specs.declared.head.SunChoice.TheVariants.{Meeus, Usno}
+use Rattle.sun_choice.specs.declared.choice.SunChoice.{SunChoice}
+use Rattle.sun_choice.specs.declared.choice.SunChoice.TheVariants.{Meeus, Usno}
 use Rattle.year_table.specs.declared.zone.Zone.{Zone}
 use Rattle.year_table.specs.declared.zone.Zone.TheVariants.{Fixed, Rule}
 use Rattle.year_table.specs.Dates.{date_text}
@@ -43,10 +43,6 @@ night_line fajr isha = codes "night fajr " ++ given_text fajr ++ codes " isha " 
 
 abbrev pub end_line : ℕ → ℕ → List ℕ
 end_line days undecided = codes "end days " ++ decimal days ++ codes " open " ++ decimal undecided ++ codes "\n"
-
-abbrev pub sun_word : SunChoice → List ℕ
-sun_word Usno = codes "usno"
-sun_word Meeus = codes "meeus"
 
 -- a fixed offset in minutes, or `rule`
 abbrev pub zone_text : Zone → List ℕ

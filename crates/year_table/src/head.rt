@@ -1,30 +1,14 @@
 // The first lines of a table, and the last.
 ghost use Rattle.std.specs.Prelude.{◌≡◌, ◌≤◌, ◌≤ℤ◌, neg_ℤ, pos, IfOk};
 ghost use Rattle.std.specs.String.{string_bytes};
-ghost use Rattle.year_table.specs.Lines.{end_line, head_text, height_text, order_text, span_text, sun_text, sun_word, table_head, words_text, zone_text};
+ghost use Rattle.year_table.specs.Lines.{end_line, head_text, height_text, order_text, span_text, sun_text, table_head, words_text, zone_text};
 
 use crate::entry::date_string;
 use crate::zone::Zone;
 use method_table::{Asr, Method, asr_word, method_word};
 use no_memory::NoMemory;
 use std::alloc::Global;
-
-/// Whose sun the entries are judged by: the US Naval Observatory's approximate one, or that of Meeus.
-#[derive(Clone, Copy, Debug, PartialEq, Eq)]
-pub enum SunChoice {
-    Usno,
-    Meeus,
-}
-
-/// The word of a sun in orders and tables.
-pub fn sun_word(sun: SunChoice) -> &'static str
-    ensures { result.now ≡ sun_word sun }
-{
-    match sun {
-        SunChoice::Usno => "usno",
-        SunChoice::Meeus => "meeus",
-    }
-}
+use sun_choice::SunChoice;
 
 /// The first three lines of a table from `day` on. `positions` counts the district's; `height` is in
 /// metres, and is named where it is above 0, as the sun is where it is Meeus'.

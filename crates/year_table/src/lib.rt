@@ -10,6 +10,7 @@ mod show;
 mod zone;
 
 pub use entry::{date_text, day_line, entry_text, night_line, open_line};
-pub use head::{SunChoice, end_line, sun_word, table_head};
+pub use head::{end_line, table_head};
 pub use offset::day_offset;
+pub use sun_choice::{SunChoice, sun_word};
 pub use zone::{Rule, RuleFault, Zone, read_rule};

@@ -1,5 +1,5 @@
 use Rattle.std.proofs.Common.{refl}
-use Rattle.solar_terms.specs.Sun.{grid_sun}
+use Rattle.chosen_sun.specs.Suns.{grid_sun_of}
 use Rattle.method_table.specs.Row.{row_of}
 use Rattle.cell_judge.proofs.JudgeLemmas.{judged, judged_outside, made_verdict}
 use Rattle.cell_judge.proofs.sky.Sky.judge_quarter.Goals as goal
@@ -8,8 +8,9 @@ pub returns-in-Some-clause-verdict : goal.returns-in-Some-clause-verdict
 returns-in-Some-clause-verdict c =
     let row = row_of c.args.problem.now in
     let cell = c.args.cell.now in
-    judged grid_sun row c.args.self.now.district cell c.in-Some.p _ c.in-Some.ensures
-    (made_verdict grid_sun row cell c.in-Some.p _ _ _ _ c.judged.ensures c.value_over.ensures.value c.requires.minutes refl)
+    let grid = grid_sun_of c.args.self.now.sun in
+    judged grid row c.args.self.now.district cell c.in-Some.p _ c.in-Some.ensures
+    (made_verdict grid row cell c.in-Some.p _ _ _ _ c.judged.ensures (c.value_over.ensures.value grid c.requires.sun) c.requires.minutes refl)
 
 pub returns-in-None-clause-verdict : goal.returns-in-None-clause-verdict
-returns-in-None-clause-verdict c = judged_outside grid_sun _ c.args.self.now.district c.args.cell.now c.in-None.ensures
+returns-in-None-clause-verdict c = judged_outside (grid_sun_of c.args.self.now.sun) _ c.args.self.now.district c.args.cell.now c.in-None.ensures

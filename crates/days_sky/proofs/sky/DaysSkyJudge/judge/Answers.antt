@@ -15,4 +15,5 @@ returns c =
     let inside : c.args.t.problem / 7 < length days = omega (arith, c.requires.known, count_of_rows (map rows_of_day days) (whole_days days), length-map days rows_of_day) in
     let is = c.index-self-t.is in
     let at = c.index-day-k.is in
-    judged c.args.self.now.sky.now.district days c.args.t.problem c.args.t.cell _ _ _ inside c.judge_for.ensures
+    let sky = c.args.self.now.sky.now in
+    judged sky.sun sky.district days c.args.t.problem c.args.t.cell _ _ _ inside c.judge_for.ensures

@@ -14,4 +14,4 @@ returns c =
     let sky = c.args.self.now.sky.now in
     let days = c.args.self.now.days.now in
     let inside : c.args.t.problem / 7 < length days = omega (arith, c.requires.task.known, count_of_rows (map rows_of_day days) (whole_days days), length-map days rows_of_day) in
-    quarters_judged sky.district sky.root days c.args.t _ _ _ inside c.judge_quarters_for.ensures
+    quarters_judged sky.sun sky.district sky.root days c.args.t _ _ _ inside c.judge_quarters_for.ensures
