@@ -6,9 +6,10 @@ use Rattle.std.proofs.lemmas.Int.{ints}
 use Rattle.std.proofs.lemmas.List.Elements.{recursion_from_All}
 use Rattle.exact_json.specs.Tree.{Tree, Entry, text, list_of}
 use Rattle.method_table.specs.Method.{asr_word, method_word}
-use Rattle.order_reader.proofs.LineTree.{date_tree, district_tree, fields_by, is_first, line_tree, number_tree, polygon_tree, position_tree, ring_tree, zone_tree}
+use Rattle.night_rule.specs.declared.rule.NightRule.{NightRule}
+use Rattle.order_reader.proofs.LineTree.{date_tree, district_tree, fields_by, fields_of, line_tree, number_tree, polygon_tree, position_tree, ring_tree, zone_tree}
 use Rattle.order_reader.proofs.LookupLemmas.{entries_in_before, items_in_before}
-use Rattle.order_reader.proofs.MembersAgain.{asr_again, days_again, from_again, height_again, late_again, method_again, offsets_again, version_again, zone_again}
+use Rattle.order_reader.proofs.MembersAgain.{asr_again, days_again, from_again, height_again, late_again, method_again, night_again, offsets_again, sun_again, version_again, zone_again}
 use Rattle.order_reader.proofs.NumberLemmas.{and_parts, whole_of_decimal}
 use Rattle.order_reader.proofs.RuleLemmas.{IsNear, near_district}
 use Rattle.order_reader.proofs.SpelledLemmas.{entry_of}
@@ -16,7 +17,8 @@ use Rattle.order_reader.specs.Asked.{Asked}
 use Rattle.order_reader.specs.Each.{each_of}
 use Rattle.order_reader.specs.Geometry.{each_in, line_district_of, polygon_in, position_in, ring_in}
 use Rattle.order_reader.specs.Late.{is_empty}
-use Rattle.order_reader.specs.LineReading.{line_district, line_extras_of, line_order_in, line_order_of, second_extras_of, version_in}
+use Rattle.order_reader.specs.Line.{is_plain, version_by}
+use Rattle.order_reader.specs.LineReading.{line_district, line_extras_of, line_order_in, line_order_of, version_in}
 use Rattle.order_reader.specs.Lookup.{values_named}
 use Rattle.order_reader.specs.Offsets.{first_day, is_day, last_day}
 use Rattle.order_reader.specs.Reading.{Basis, Extras, basis_of, needed}
@@ -27,8 +29,8 @@ use Rattle.order_reader.specs.declared.positions.Notation.TheVariants.{Microdegr
 use Rattle.region.proofs.Truth.{le_true}
 use Rattle.region.specs.Faults.{first_fault}
 use Rattle.region.specs.Rings.{Position, Ring, Polygon}
-use Rattle.year_table.specs.declared.head.SunChoice.{SunChoice}
-use Rattle.year_table.specs.declared.head.SunChoice.TheVariants.{Usno}
+use Rattle.sun_choice.specs.declared.choice.SunChoice.{SunChoice}
+use Rattle.sun_choice.specs.declared.choice.SunChoice.TheVariants.{Usno, Meeus}
 
 -- Districts.
 
@@ -93,20 +95,19 @@ basis_again o es h has =
       offsets_again o.zone o.from_day o.days o.offsets h.offset_each,
     ) refl
 
-abbrev version_by : Bool → ℕ
-version_by true = 1
-version_by false = 2
-
-abbrev extras_in : Asked → Extras
-extras_in o = record { height = o.height; late = o.late; sun = o.sun }
-
-basis_stands : (b : Bool) (o : Asked) → HasBasis o (map entry_of (fields_by b o))
+basis_stands : (plain : Bool) (sun : SunChoice) (night : Option NightRule) (o : Asked) → HasBasis o (map entry_of (fields_by plain sun night o))
 unfolding values_named
-basis_stands true o = record { from = refl; days = refl; method = refl; asr = refl; zone = refl }
-basis_stands false o = record { from = refl; days = refl; method = refl; asr = refl; zone = refl }
+basis_stands plain sun (Some rule) o = record { from = refl; days = refl; method = refl; asr = refl; zone = refl }
+basis_stands plain Meeus None o = record { from = refl; days = refl; method = refl; asr = refl; zone = refl }
+basis_stands true Usno None o = record { from = refl; days = refl; method = refl; asr = refl; zone = refl }
+basis_stands false Usno None o = record { from = refl; days = refl; method = refl; asr = refl; zone = refl }
 
-extras_same : (height k : ℕ) (late l : List (ℤ × ℤ)) (sun t : SunChoice) → height ≡ k → late ≡ l → sun ≡ t → ◌≡◌ {A = Result Extras OrderFault} (Ok (record { height = height; late = late; sun = sun })) (Ok (record { height = k; late = l; sun = t }))
-extras_same height k late l sun t p q r = rw (p, q, r) refl
+-- what the members after the zone say
+abbrev extras_with : Asked → SunChoice → Option NightRule → Extras
+extras_with o sun night = record { height = o.height; late = o.late; sun = sun; night = night }
+
+plain_same : (height k : ℕ) (late l : List (ℤ × ℤ)) → height ≡ k → late ≡ l → ◌≡◌ {A = Result Extras OrderFault} (Ok (record { height = height; late = late; sun = Usno; night = None })) (Ok (record { height = k; late = l; sun = Usno; night = None }))
+plain_same height k late l p q = rw (p, q) refl
 
 empty_is : (late : List (ℤ × ℤ)) → is_empty late ≡ true → late ≡ []
 empty_is [] h = refl
@@ -115,37 +116,49 @@ empty_is (range ∷ late) h = cc
 zero_is : (height : ℕ) → (height == 0) ≡ true → height ≡ 0
 zero_is height h = grind (arith, nat_tests)
 
-extras_again : (b : Bool) (o : Asked) → IsOrder o → is_first o ≡ b → line_extras_of (version_by b) o.method (map entry_of (fields_by b o)) ≡ Ok (extras_in o)
-unfolding second_extras_of values_named
-extras_again true o h first =
-    let none = and_parts (o.height == 0) (is_empty o.late) first in
-    extras_same 0 o.height [] o.late Usno o.sun (sym (zero_is o.height none.0)) (sym (empty_is o.late none.1)) (sym h.known_sun)
-extras_again false o h first =
-    rw (height_again o.height h.low, late_again o.method o.late h.late_in_range)
-    (extras_same o.height o.height o.late o.late Usno o.sun refl refl (sym h.known_sun))
+extras_again : (plain : Bool) (sun : SunChoice) (night : Option NightRule) (o : Asked) → IsOrder o → is_plain o.height o.late ≡ plain → line_extras_of (version_by plain sun night) o.method (map entry_of (fields_by plain sun night o)) ≡ Ok (extras_with o sun night)
+unfolding line_extras_of values_named
+extras_again plain sun (Some rule) o h is = rw (height_again o.height h.low, late_again o.method o.late h.late_in_range, sun_again sun, night_again rule) refl
+extras_again plain Meeus None o h is = rw (height_again o.height h.low, late_again o.method o.late h.late_in_range) refl
+extras_again true Usno None o h is =
+    let none = and_parts (o.height == 0) (is_empty o.late) is in
+    plain_same 0 o.height [] o.late (sym (zero_is o.height none.0)) (sym (empty_is o.late none.1))
+extras_again false Usno None o h is = rw (height_again o.height h.low, late_again o.method o.late h.late_in_range) refl
 
-version_stands : (b : Bool) (o : Asked) → needed members.Version (map entry_of (fields_by b o)) ≡ Ok (number_tree (pos (version_by b)))
+version_stands : (plain : Bool) (sun : SunChoice) (night : Option NightRule) (o : Asked) → needed members.Version (map entry_of (fields_by plain sun night o)) ≡ Ok (number_tree (pos (version_by plain sun night)))
 unfolding values_named
-version_stands true o = refl
-version_stands false o = refl
+version_stands plain sun (Some rule) o = refl
+version_stands plain Meeus None o = refl
+version_stands true Usno None o = refl
+version_stands false Usno None o = refl
 
-version_read : (b : Bool) → version_in (number_tree (pos (version_by b))) ≡ Ok (version_by b)
-version_read true = version_again 1 (omega arith) (omega arith)
-version_read false = version_again 2 (omega arith) (omega arith)
+version_read : (plain : Bool) (sun : SunChoice) (night : Option NightRule) → version_in (number_tree (pos (version_by plain sun night))) ≡ Ok (version_by plain sun night)
+version_read plain sun (Some rule) = version_again 4 (omega arith) (omega arith)
+version_read plain Meeus None = version_again 3 (omega arith) (omega arith)
+version_read true Usno None = version_again 1 (omega arith) (omega arith)
+version_read false Usno None = version_again 2 (omega arith) (omega arith)
 
-district_stands : (b : Bool) (o : Asked) → needed members.District (map entry_of (fields_by b o)) ≡ Ok (district_tree o.district)
+district_stands : (plain : Bool) (sun : SunChoice) (night : Option NightRule) (o : Asked) → needed members.District (map entry_of (fields_by plain sun night o)) ≡ Ok (district_tree o.district)
 unfolding values_named
-district_stands true o = refl
-district_stands false o = refl
+district_stands plain sun (Some rule) o = refl
+district_stands plain Meeus None o = refl
+district_stands true Usno None o = refl
+district_stands false Usno None o = refl
 
-order_again : (b : Bool) (o : Asked) → IsOrder o → is_first o ≡ b → line_order_of (map entry_of (fields_by b o)) ≡ Ok o
+order_again : (plain : Bool) (o : Asked) → IsOrder o → is_plain o.height o.late ≡ plain → line_order_of (map entry_of (fields_by plain o.sun o.night o)) ≡ Ok o
 unfolding line_order_of
-order_again b o h first =
-    let es = map entry_of (fields_by b o) in
-    rw (version_stands b o, version_read b, basis_again o es h (basis_stands b o), extras_again b o h first, district_stands b o, district_again o.district h.sound) refl
+order_again plain o h is =
+    let es = map entry_of (fields_by plain o.sun o.night o) in
+    rw (
+      version_stands plain o.sun o.night o,
+      version_read plain o.sun o.night,
+      basis_again o es h (basis_stands plain o.sun o.night o),
+      extras_again plain o.sun o.night o h is,
+      district_stands plain o.sun o.night o,
+      district_again o.district h.sound,
+    ) refl
 
 -- the tree of an order's line is read as that order
 pub read_again : (o : Asked) → IsOrder o → line_order_in (line_tree o) ≡ Ok o
 unfolding line_order_in line_tree
-read_again o h =
-    ap line_order_of (entries_in_before (map entry_of (fields_by (is_first o) o))) ∙ order_again (is_first o) o h refl
+read_again o h = ap line_order_of (entries_in_before (map entry_of (fields_of o))) ∙ order_again (is_plain o.height o.late) o h refl

@@ -1,28 +1,35 @@
 -- The canonical line of an order, without its LF, is spelled by JSON's grammar.
-use Rattle.std.proofs.Common.{◌≡◌, ℕ, ◌≤◌, ◌^◌, ◌&&◌, Bool, true, false, ℤ, pos, neg_ℤ, ◌≤ℤ◌, int_le, nat_le, ◌||◌, length, Some, All, List, [], ◌∷◌, ◌++◌, map, refl, ap, sym, subst, ◌∙◌, append_assoc, append-nil, codes, arith, inl}
+use Rattle.std.proofs.Common.{◌≡◌, ℕ, ◌≤◌, ◌^◌, ◌&&◌, Bool, true, false, ℤ, pos, neg_ℤ, ◌≤ℤ◌, int_le, nat_le, ◌||◌, length, Option, Some, None, All, List, [], ◌∷◌, ◌++◌, map, refl, ap, sym, subst, ◌∙◌, append_assoc, append-nil, codes, arith, inl}
 use Rattle.std.proofs.lemmas.Int.{ints}
 use Rattle.std.proofs.lemmas.List.Elements.{All-nil, All-cons, All-head, All-tail}
 use Rattle.std.specs.Fmt.{decimal, signed_decimal}
 use Rattle.std.specs.List.{list_all}
 use Rattle.exact_json.specs.Grammar.{IsJsonWithin, Value}
 use Rattle.exact_json.specs.Limits.{limits_before}
-use Rattle.exact_json.specs.Tree.{Tree, text, list_of}
+use Rattle.exact_json.specs.Tree.{Tree, text, list_of, table_of}
 use Rattle.method_table.specs.Method.{asr_word, method_word}
 use Rattle.method_table.specs.declared.method.Asr.{Asr}
 use Rattle.method_table.specs.declared.method.Asr.TheVariants.{Standard, Hanafi}
 use Rattle.method_table.specs.declared.method.Method.{Method}
 use Rattle.method_table.specs.declared.method.Method.TheVariants.{Mwl, Isna, Egypt, Karachi, Makkah, Tehran, Jafari}
+use Rattle.night_rule.specs.Rule.{night_word}
+use Rattle.night_rule.specs.declared.rule.NightRule.{NightRule}
+use Rattle.night_rule.specs.declared.rule.NightRule.TheVariants.{Half, Seventh, ByAngle}
 use Rattle.order_reader.proofs.DateTexts.{day_text_plain}
-use Rattle.order_reader.proofs.LineTree.{common_fields, district_field, district_tree, fields_by, is_first, late_field, line_tree, number_field, number_tree, polygon_tree, position_tree, range_tree, ring_tree, text_field, tree_by, zone_field, zone_tree}
+use Rattle.order_reader.proofs.LineTree.{common_fields, district_field, district_tree, fields_by, fields_of, last_fields, late_field, line_tree, night_field, number_field, number_tree, polygon_tree, position_tree, range_tree, ring_tree, second_fields, sun_field, text_field, zone_field, zone_tree}
 use Rattle.order_reader.proofs.NumberLemmas.{and_parts}
 use Rattle.order_reader.proofs.RuleLemmas.{IsNear, fixed_near, near_district, rule_bytes}
-use Rattle.order_reader.proofs.SpelledLemmas.{Field, IsField, Spells, field_text, no_blanks, object_text, quoted, spells_list, spells_number, spells_object, spells_text}
+use Rattle.order_reader.proofs.SpelledLemmas.{Field, IsField, Spells, entry_of, field_text, no_blanks, object_text, quoted, spells_list, spells_number, spells_object, spells_text}
+use Rattle.order_reader.proofs.VersionLemmas.{at_most_four}
 use Rattle.order_reader.specs.Asked.{Asked}
 use Rattle.order_reader.specs.Late.{is_empty, is_makkah, is_range}
-use Rattle.order_reader.specs.Line.{body_text, height_text, words_by, district_text, list_text, more_text, order_body, polygon_text, position_text, range_text, ring_text, zone_text}
+use Rattle.order_reader.specs.Line.{body_text, district_text, height_text, is_plain, list_text, more_text, night_text, order_body, polygon_text, position_text, range_text, ring_text, second_text, span_text, sun_text, third_text, version_by, words_by, words_text, zone_text}
 use Rattle.order_reader.specs.Offsets.{is_day, is_zone, offsets_of}
 use Rattle.order_reader.specs.Rule.{IsOrder}
 use Rattle.region.specs.Rings.{Position, Ring, Polygon}
+use Rattle.sun_choice.specs.Choice.{sun_word}
+use Rattle.sun_choice.specs.declared.choice.SunChoice.{SunChoice}
+use Rattle.sun_choice.specs.declared.choice.SunChoice.TheVariants.{Usno, Meeus}
 use Rattle.year_table.specs.Dates.{date_text}
 use Rattle.year_table.specs.Rules.{is_rule_byte}
 use Rattle.year_table.specs.declared.zone.Zone.{Zone}
@@ -101,6 +108,15 @@ asr_plain : (a : Asr) → list_all is_rule_byte (asr_word a) ≡ true
 asr_plain Standard = refl
 asr_plain Hanafi = refl
 
+sun_plain : (sun : SunChoice) → list_all is_rule_byte (sun_word sun) ≡ true
+sun_plain Usno = refl
+sun_plain Meeus = refl
+
+night_plain : (rule : NightRule) → list_all is_rule_byte (night_word rule) ≡ true
+night_plain Half = refl
+night_plain Seventh = refl
+night_plain ByAngle = refl
+
 spells_zone : (zone : Zone) (day : ℤ) (days : ℕ) (offsets : List ℤ) → is_zone zone ≡ true → 1 ≤ days → offsets_of zone day days ≡ Some offsets → Spells 1 (zone_tree zone) (zone_text zone)
 spells_zone (Fixed minutes) day days offsets is some each = spells_number 1 minutes (fixed_near minutes day days offsets some each)
 spells_zone (Rule rule) day days offsets is some each = spells_text 1 rule (rule_bytes rule is)
@@ -126,7 +142,7 @@ module _ (o : Asked) (is : IsOrder o) where
       let high : int_le o.from_day (pos 47846) ≡ true = grind (arith, ints) in
       rw (low, high) refl
 
-  version_member : (version : ℕ) → version ≤ 2 → IsField 0 (number_field (codes "version") version)
+  version_member : (version : ℕ) → version ≤ 4 → IsField 0 (number_field (codes "version") version)
   version_member version h = number_member (codes "version") version refl (omega arith)
 
   zone_member : IsField 0 (zone_field o.zone)
@@ -138,7 +154,7 @@ module _ (o : Asked) (is : IsOrder o) where
   late_member : IsField 0 (late_field o.late)
   late_member = record { plain = refl; spells = spells_late o.late late_ranges }
 
-  common_members : (version : ℕ) (rest : List Field) → version ≤ 2 → All (IsField 0) rest → All (IsField 0) (common_fields version o rest)
+  common_members : (version : ℕ) (rest : List Field) → version ≤ 4 → All (IsField 0) rest → All (IsField 0) (common_fields version o rest)
   common_members version rest h each =
       let zone : List Field = zone_field o.zone ∷ rest in
       let asr : List Field = text_field (codes "asr") (asr_word o.asr) ∷ zone in
@@ -152,15 +168,33 @@ module _ (o : Asked) (is : IsOrder o) where
       (All-cons (IsField 0) (text_field (codes "asr") (asr_word o.asr)) zone (text_member (codes "asr") (asr_word o.asr) refl (asr_plain o.asr))
       (All-cons (IsField 0) (zone_field o.zone) rest zone_member each)))))
 
+  sun_member : (sun : SunChoice) → IsField 0 (sun_field sun)
+  sun_member sun = text_member (codes "sun") (sun_word sun) refl (sun_plain sun)
+
+  night_member : (rule : NightRule) → IsField 0 (night_field rule)
+  night_member rule = text_member (codes "night") (night_word rule) refl (night_plain rule)
+
+  second_members : (rest : List Field) → All (IsField 0) rest → All (IsField 0) (second_fields o rest)
+  second_members rest each =
+      All-cons (IsField 0) (number_field (codes "height") o.height) (late_field o.late ∷ rest) (number_member (codes "height") o.height refl (omega (arith, is.low)))
+      (All-cons (IsField 0) (late_field o.late) rest late_member each)
+
   last_member : All (IsField 0) (district_field o.district ∷ [])
   last_member = All-cons (IsField 0) (district_field o.district) [] district_member (All-nil (IsField 0))
 
-  members : (first : Bool) → All (IsField 0) (fields_by first o)
-  members true = common_members 1 (district_field o.district ∷ []) (omega arith) last_member
-  members false =
-      common_members 2 (number_field (codes "height") o.height ∷ late_field o.late ∷ district_field o.district ∷ []) (omega arith)
-      (All-cons (IsField 0) (number_field (codes "height") o.height) (late_field o.late ∷ district_field o.district ∷ []) (number_member (codes "height") o.height refl (omega (arith, is.low)))
-      (All-cons (IsField 0) (late_field o.late) (district_field o.district ∷ []) late_member last_member))
+  last_members : (plain : Bool) (sun : SunChoice) (night : Option NightRule) → All (IsField 0) (last_fields plain sun night o)
+  last_members plain sun (Some rule) =
+      second_members (sun_field sun ∷ night_field rule ∷ district_field o.district ∷ [])
+      (All-cons (IsField 0) (sun_field sun) (night_field rule ∷ district_field o.district ∷ []) (sun_member sun)
+      (All-cons (IsField 0) (night_field rule) (district_field o.district ∷ []) (night_member rule) last_member))
+  last_members plain Meeus None =
+      second_members (sun_field Meeus ∷ district_field o.district ∷ [])
+      (All-cons (IsField 0) (sun_field Meeus) (district_field o.district ∷ []) (sun_member Meeus) last_member)
+  last_members true Usno None = last_member
+  last_members false Usno None = second_members (district_field o.district ∷ []) last_member
+
+  members : (plain : Bool) (sun : SunChoice) (night : Option NightRule) → All (IsField 0) (fields_by plain sun night o)
+  members plain sun night = common_members (version_by plain sun night) (last_fields plain sun night o) (at_most_four plain sun night) (last_members plain sun night)
 
 -- The line of the members is the line.
 
@@ -237,22 +271,53 @@ extras_are height late after = sym (four (codes ",\"height\":") height (codes ",
     four : (a h b l after : List ℕ) → (a ++ h ++ b ++ l) ++ after ≡ a ++ (h ++ (b ++ (l ++ after)))
     four a h b l after = simp append_assoc
 
-line_by : (o : Asked) (first : Bool) → is_first o ≡ first → object_text (fields_by first o) ≡ order_body o
-unfolding order_body
-line_by o true e =
-    rw e (common_line (number_tree (pos 1)) (number_tree (pos o.days)) (zone_tree o.zone) (decimal 1) (date_text o.from_day) (decimal o.days) (method_word o.method) (asr_word o.asr) (zone_text o.zone)
-    (district_field o.district ∷ []) [] (district_text o.district) refl)
-line_by o false e =
-    rw e (common_line (number_tree (pos 2)) (number_tree (pos o.days)) (zone_tree o.zone) (decimal 2) (date_text o.from_day) (decimal o.days) (method_word o.method) (asr_word o.asr) (zone_text o.zone)
-    (number_field (codes "height") o.height ∷ late_field o.late ∷ district_field o.district ∷ [])
-    (height_text o.height ++ list_text range_text o.late) (district_text o.district)
-    (extras_are (decimal o.height) (list_text range_text o.late) (codes ",\"district\":" ++ (district_text o.district ++ codes "}"))))
+word_is : (key word after : List ℕ) → key ++ (quoted word ++ after) ≡ (key ++ codes "\"" ++ word ++ codes "\"") ++ after
+word_is key word after = simp append_assoc
+
+in_front : (a b c after : List ℕ) → (a ++ (b ++ c)) ++ after ≡ a ++ (b ++ (c ++ after))
+in_front a b c after = simp append_assoc
+
+module _ (o : Asked) where
+  -- the district, and the end
+  abbrev end_text : List ℕ
+  end_text = codes ",\"district\":" ++ (district_text o.district ++ codes "}")
+
+  abbrev second : List ℕ
+  second = height_text o.height ++ list_text range_text o.late
+
+  abbrev last_text : Bool → SunChoice → Option NightRule → List ℕ
+  last_text plain sun night = second_text (version_by plain sun night) o.height o.late ++ (third_text (version_by plain sun night) sun ++ night_text night)
+
+  sun_is : (sun : SunChoice) (after : List ℕ) → codes ",\"sun\":" ++ (quoted (sun_word sun) ++ after) ≡ sun_text sun ++ after
+  sun_is sun after = word_is (codes ",\"sun\":") (sun_word sun) after
+
+  night_is : (rule : NightRule) (after : List ℕ) → codes ",\"night\":" ++ (quoted (night_word rule) ++ after) ≡ night_text (Some rule) ++ after
+  night_is rule after = word_is (codes ",\"night\":") (night_word rule) after
+
+  second_is : (fs : List Field) → rest_of (second_fields o fs) (codes "}") ≡ second ++ rest_of fs (codes "}")
+  second_is fs = extras_are (decimal o.height) (list_text range_text o.late) (rest_of fs (codes "}"))
+
+  last_is : (plain : Bool) (sun : SunChoice) (night : Option NightRule) → rest_of (last_fields plain sun night o) (codes "}") ≡ last_text plain sun night ++ end_text
+  last_is plain sun (Some rule) =
+      second_is (sun_field sun ∷ night_field rule ∷ district_field o.district ∷ [])
+      ∙ (ap (λ x. second ++ x) (sun_is sun (rest_of (night_field rule ∷ district_field o.district ∷ []) (codes "}")) ∙ ap (λ x. sun_text sun ++ x) (night_is rule end_text))
+      ∙ sym (in_front second (sun_text sun) (night_text (Some rule)) end_text))
+  last_is plain Meeus None =
+      second_is (sun_field Meeus ∷ district_field o.district ∷ [])
+      ∙ (ap (λ x. second ++ x) (sun_is Meeus end_text) ∙ sym (in_front second (sun_text Meeus) [] end_text))
+  last_is true Usno None = refl
+  last_is false Usno None = second_is (district_field o.district ∷ []) ∙ sym (in_front second [] [] end_text)
+
+  line_by : (plain : Bool) (sun : SunChoice) (night : Option NightRule) → object_text (fields_by plain sun night o) ≡ body_text (span_text (version_by plain sun night) o.from_day o.days) (words_text o.method o.asr o.zone) (last_text plain sun night) (district_text o.district)
+  line_by plain sun night =
+      common_line (number_tree (pos (version_by plain sun night))) (number_tree (pos o.days)) (zone_tree o.zone) (decimal (version_by plain sun night)) (date_text o.from_day) (decimal o.days) (method_word o.method) (asr_word o.asr) (zone_text o.zone)
+      (last_fields plain sun night o) (last_text plain sun night) (district_text o.district) (last_is plain sun night)
 
 spelled_line : (o : Asked) → IsOrder o → Spells 0 (line_tree o) (order_body o)
-unfolding line_tree
+unfolding line_tree order_body
 spelled_line o is =
-    subst (Spells 0 (tree_by (is_first o) o)) (line_by o (is_first o) refl)
-    (spells_object 0 (fields_by (is_first o) o) (omega arith) (members o is (is_first o)))
+    subst (Spells 0 (table_of (map entry_of (fields_of o)))) (line_by o (is_plain o.height o.late) o.sun o.night)
+    (spells_object 0 (fields_of o) (omega arith) (members o is (is_plain o.height o.late) o.sun o.night))
 
 -- the line without its LF is a JSON text with its tree
 pub line_is_json : (o : Asked) → IsOrder o → IsJsonWithin (line_tree o) (order_body o)

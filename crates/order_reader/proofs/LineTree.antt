@@ -1,14 +1,18 @@
 -- The plain tree of a canonical line, and the text of each of its members.
-use Rattle.std.proofs.Common.{ℕ, ℤ, pos, ◌==◌, ◌&&◌, Bool, true, false, List, [], ◌∷◌, map, codes}
+use Rattle.std.proofs.Common.{ℕ, ℤ, pos, Bool, true, false, List, [], ◌∷◌, Option, Some, None, map, codes}
 use Rattle.std.specs.Fmt.{decimal}
 use Rattle.exact_json.specs.Tree.{Tree, number, text, list_of, table_of}
 use Rattle.method_table.specs.Method.{asr_word, method_word}
+use Rattle.night_rule.specs.Rule.{night_word}
+use Rattle.night_rule.specs.declared.rule.NightRule.{NightRule}
 use Rattle.order_reader.specs.Asked.{Asked}
-use Rattle.order_reader.specs.Late.{is_empty}
-use Rattle.order_reader.specs.Line.{district_text, list_text, range_text, zone_text}
+use Rattle.order_reader.specs.Line.{district_text, is_plain, list_text, range_text, version_by, zone_text}
 use Rattle.order_reader.proofs.NumberLemmas.{whole_decimal}
 use Rattle.order_reader.proofs.SpelledLemmas.{Field, entry_of, quoted}
 use Rattle.region.specs.Rings.{Position, Ring, Polygon}
+use Rattle.sun_choice.specs.Choice.{sun_word}
+use Rattle.sun_choice.specs.declared.choice.SunChoice.{SunChoice}
+use Rattle.sun_choice.specs.declared.choice.SunChoice.TheVariants.{Usno, Meeus}
 use Rattle.year_table.specs.Dates.{date_text}
 use Rattle.year_table.specs.declared.zone.Zone.{Zone}
 use Rattle.year_table.specs.declared.zone.Zone.TheVariants.{Fixed, Rule}
@@ -54,9 +58,11 @@ late_field late = record { name = codes "late_isha"; value = list_of (map range_
 abbrev pub district_field : List Polygon → Field
 district_field polygons = record { name = codes "district"; value = district_tree polygons; spelled = district_text polygons }
 
--- whether the first version says all
-abbrev pub is_first : Asked → Bool
-is_first o = (o.height == 0) && is_empty o.late
+abbrev pub sun_field : SunChoice → Field
+sun_field sun = text_field (codes "sun") (sun_word sun)
+
+abbrev pub night_field : NightRule → Field
+night_field rule = text_field (codes "night") (night_word rule)
 
 abbrev pub common_fields : ℕ → Asked → List Field → List Field
 common_fields version o rest =
@@ -68,12 +74,22 @@ common_fields version o rest =
     ∷ zone_field o.zone
     ∷ rest
 
-abbrev pub fields_by : Bool → Asked → List Field
-fields_by true o = common_fields 1 o (district_field o.district ∷ [])
-fields_by false o = common_fields 2 o (number_field (codes "height") o.height ∷ late_field o.late ∷ district_field o.district ∷ [])
+-- the members since the second version, before others
+abbrev pub second_fields : Asked → List Field → List Field
+second_fields o rest = number_field (codes "height") o.height ∷ late_field o.late ∷ rest
 
-abbrev pub tree_by : Bool → Asked → Tree
-tree_by first o = table_of (map entry_of (fields_by first o))
+-- those after the zone, by whether there is neither a height nor a range, by the sun and by the rule
+abbrev pub last_fields : Bool → SunChoice → Option NightRule → Asked → List Field
+last_fields plain sun (Some rule) o = second_fields o (sun_field sun ∷ night_field rule ∷ district_field o.district ∷ [])
+last_fields plain Meeus None o = second_fields o (sun_field Meeus ∷ district_field o.district ∷ [])
+last_fields true Usno None o = district_field o.district ∷ []
+last_fields false Usno None o = second_fields o (district_field o.district ∷ [])
+
+abbrev pub fields_by : Bool → SunChoice → Option NightRule → Asked → List Field
+fields_by plain sun night o = common_fields (version_by plain sun night) o (last_fields plain sun night o)
+
+abbrev pub fields_of : Asked → List Field
+fields_of o = fields_by (is_plain o.height o.late) o.sun o.night o
 
 unfoldable pub line_tree : Asked → Tree
-line_tree o = tree_by (is_first o) o
+line_tree o = table_of (map entry_of (fields_of o))

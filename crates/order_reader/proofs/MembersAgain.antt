@@ -10,6 +10,9 @@ use Rattle.method_table.specs.declared.method.Asr.{Asr}
 use Rattle.method_table.specs.declared.method.Asr.TheVariants.{Standard, Hanafi}
 use Rattle.method_table.specs.declared.method.Method.{Method}
 use Rattle.method_table.specs.declared.method.Method.TheVariants.{Mwl, Isna, Egypt, Karachi, Makkah, Tehran, Jafari}
+use Rattle.night_rule.specs.Rule.{night_word}
+use Rattle.night_rule.specs.declared.rule.NightRule.{NightRule}
+use Rattle.night_rule.specs.declared.rule.NightRule.TheVariants.{Half, Seventh, ByAngle}
 use Rattle.order_reader.proofs.DateTexts.{day_read, day_text_read, ymd_of_day}
 use Rattle.order_reader.proofs.LineTree.{date_tree, number_tree, range_tree, zone_tree}
 use Rattle.order_reader.proofs.LookupLemmas.{items_in_before}
@@ -18,10 +21,14 @@ use Rattle.order_reader.proofs.OffsetLemmas.{offset_in_range}
 use Rattle.order_reader.specs.Each.{each_of}
 use Rattle.order_reader.specs.Late.{is_empty, is_makkah, is_range, may_be_late}
 use Rattle.order_reader.specs.LineReading.{version_in}
-use Rattle.order_reader.specs.Members.{asr_in, days_in, from_in, height_in, late_in, method_in, offsets_in, pair_in, range_of, whole_within, zone_in}
+use Rattle.order_reader.specs.Members.{asr_in, days_in, from_in, height_in, late_in, method_in, offsets_in, pair_in, range_of, sun_in, whole_within, zone_in}
 use Rattle.order_reader.specs.Offsets.{IsOffset, days_from, is_day, is_zone, last_day, offsets_of}
+use Rattle.order_reader.specs.Reading.{rule_in}
 use Rattle.order_reader.specs.declared.date.Ymd.{Ymd}
 use Rattle.region.proofs.Truth.{le_true}
+use Rattle.sun_choice.specs.Choice.{sun_word}
+use Rattle.sun_choice.specs.declared.choice.SunChoice.{SunChoice}
+use Rattle.sun_choice.specs.declared.choice.SunChoice.TheVariants.{Usno, Meeus}
 use Rattle.year_table.specs.Zones.{day_offset}
 use Rattle.year_table.specs.declared.zone.Zone.{Zone}
 use Rattle.year_table.specs.declared.zone.Zone.TheVariants.{Fixed, Rule}
@@ -32,9 +39,9 @@ whole_again low high z l h small =
     ap (option_and_then (λ n. cond (int_le low n && int_le n high) (Some n) None)) (whole_of_decimal z small)
     ∙ ap (λ b. cond b (Some z) None) (ap (λ b. b && int_le z high) (le_true low z l) ∙ le_true z high h)
 
-pub version_again : (n : ℕ) → 1 ≤ n → n ≤ 2 → version_in (number_tree (pos n)) ≡ Ok n
+pub version_again : (n : ℕ) → 1 ≤ n → n ≤ 4 → version_in (number_tree (pos n)) ≡ Ok n
 unfolding version_in
-version_again n low high = rw (whole_again (pos 1) (pos 2) (pos n) (omega (arith, ints)) (omega (arith, ints)) (omega arith)) refl
+version_again n low high = rw (whole_again (pos 1) (pos 4) (pos n) (omega (arith, ints)) (omega (arith, ints)) (omega arith)) refl
 
 pub from_again : (day : ℤ) → is_day day ≡ true → from_in (date_tree day) ≡ Ok day
 unfolding from_in
@@ -81,6 +88,15 @@ offsets_again zone from days offsets each = rw each refl
 pub height_again : (height : ℕ) → height ≤ 9000 → height_in (number_tree (pos height)) ≡ Ok height
 unfolding height_in
 height_again height low = rw (whole_again (pos 0) (pos 9000) (pos height) (omega (arith, ints)) (omega (arith, ints)) (omega arith)) refl
+
+pub sun_again : (sun : SunChoice) → sun_in (text (sun_word sun)) ≡ Ok sun
+sun_again Usno = refl
+sun_again Meeus = refl
+
+pub night_again : (rule : NightRule) → rule_in (text (night_word rule)) ≡ Ok (Some rule)
+night_again Half = refl
+night_again Seventh = refl
+night_again ByAngle = refl
 
 -- Ranges of dates.
 

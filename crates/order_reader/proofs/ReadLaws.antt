@@ -6,7 +6,6 @@ use Rattle.exact_json.specs.Read.{IsFaultOf}
 use Rattle.exact_json.specs.Tree.{Tree}
 use Rattle.exact_json.specs.declared.fault.JsonFault.{JsonFault}
 use Rattle.exact_json.specs.declared.fault.JsonFault.TheVariants as json
-use Rattle.order_reader.specs.Asked.{Asked}
 use Rattle.order_reader.specs.Gives.{Gives}
 use Rattle.order_reader.specs.Reads.{EveryTextIsReadOrRefused, LineReadingsAgree, OrderReadingsAgree, ReadsBy, answer_by, json_refusal}
 use Rattle.order_reader.specs.LineReading.{line_order_in}
@@ -14,13 +13,13 @@ use Rattle.order_reader.specs.Reading.{order_in}
 use Rattle.order_reader.specs.declared.fault.OrderFault.{OrderFault}
 use Rattle.order_reader.specs.declared.fault.OrderFault.TheVariants.{NoMemory}
 
-module _ (reading : Tree → Result Asked OrderFault) (bytes : List ℕ) where
+module _ {A : Type 0} (reading : Tree → Result A OrderFault) (bytes : List ℕ) where
   -- of a text with a tree
-  pub order_is : {X : Type 0} (view : X → Asked) (t : Tree) (r : Result X OrderFault) → IsJsonWithin t bytes → Gives view r (reading t) → IfOk r (λ o. ReadsBy reading bytes (Ok (view o)))
+  pub order_is : {X : Type 0} (view : X → A) (t : Tree) (r : Result X OrderFault) → IsJsonWithin t bytes → Gives view r (reading t) → IfOk r (λ o. ReadsBy reading bytes (Ok (view o)))
   order_is view t (Ok o) json given = (Ok t, json, sym given)
   order_is view t (Err fault) json given = tt
 
-  pub refusal_is : {X : Type 0} (view : X → Asked) (t : Tree) (r : Result X OrderFault) → IsJsonWithin t bytes → Gives view r (reading t) → IfErr r (λ fault. (fault ≡ NoMemory) ⊎ ReadsBy reading bytes (Err fault))
+  pub refusal_is : {X : Type 0} (view : X → A) (t : Tree) (r : Result X OrderFault) → IsJsonWithin t bytes → Gives view r (reading t) → IfErr r (λ fault. (fault ≡ NoMemory) ⊎ ReadsBy reading bytes (Err fault))
   refusal_is view t (Ok o) json given = tt
   refusal_is view t (Err fault) json (inl none) = inl none
   refusal_is view t (Err fault) json (inr given) = inr (Ok t, json, sym given)
@@ -33,10 +32,10 @@ module _ (reading : Tree → Result Asked OrderFault) (bytes : List ℕ) where
   json_refusal_is json.NoMemory h = inl refl
 
   -- one answer
-  pub answers_agree : (x y : Result Asked OrderFault) → ReadsBy reading bytes x → ReadsBy reading bytes y → x ≡ y
+  pub answers_agree : (x y : Result A OrderFault) → ReadsBy reading bytes x → ReadsBy reading bytes y → x ≡ y
   answers_agree x y (r, is, e) (s, too, f) = e ∙ (ap (answer_by reading) (readings_agree bytes r s is too) ∙ sym f)
 
-  pub some_answer : (x : Result Asked OrderFault) × ReadsBy reading bytes x
+  pub some_answer : (x : Result A OrderFault) × ReadsBy reading bytes x
   some_answer = (let r = every_text_is_read bytes in (answer_by reading r.0, (r.0, r.1, refl)))
 
 pub order_readings_agree : OrderReadingsAgree

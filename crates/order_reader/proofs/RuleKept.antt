@@ -1,6 +1,6 @@
 -- What is read as an order keeps the rule of every order.
 use Rattle.std.proofs.Common.{◌≡◌, refl, sym, subst, ℕ, ◌≤◌, ℤ, pos, neg_ℤ, ◌+ℤ◌, ◌≤ℤ◌, Bool, true, false, cond, ◌&&◌, List, [], Option, Some, None, option_map, option_and_then, Result, Ok, Err, arith}
-use Rattle.std.specs.Prelude.{bytes_eq, int_le, nat_le, unsigned_abs}
+use Rattle.std.specs.Prelude.{int_le, nat_le, unsigned_abs}
 use Rattle.std.specs.Option.{ok_or}
 use Rattle.std.proofs.lemmas.Int.{ints}
 use Rattle.std.proofs.lemmas.Option.{cond_some}
@@ -10,6 +10,7 @@ use Rattle.exact_json.specs.declared.decimal.Decimal.{Decimal}
 use Rattle.exact_json.specs.declared.fault.JsonFault.{JsonFault}
 use Rattle.method_table.specs.declared.method.Asr.{Asr}
 use Rattle.method_table.specs.declared.method.Method.{Method}
+use Rattle.night_rule.specs.declared.rule.NightRule.{NightRule}
 use Rattle.order_reader.proofs.DateTexts.{day_bounds}
 use Rattle.order_reader.proofs.GivenSteps.{gave}
 use Rattle.order_reader.proofs.SignedLemmas.{between, le_from_test}
@@ -19,12 +20,12 @@ use Rattle.order_reader.specs.Each.{each_of}
 use Rattle.order_reader.specs.Geometry.{geometry_of, line_district_of}
 use Rattle.order_reader.specs.Gives.{◌>>=◌}
 use Rattle.order_reader.specs.Late.{may_be_late}
-use Rattle.order_reader.specs.LineReading.{first_extras, line_district, line_extras_of, line_order_in, line_order_of, second_extras_of, version_in}
+use Rattle.order_reader.specs.LineReading.{line_district, line_extras_of, line_order_in, line_order_of, since, version_in}
 use Rattle.order_reader.specs.Lookup.{list_in, number_in, object_in, text_in}
-use Rattle.order_reader.specs.Members.{asr_in, days_in, days_of, from_in, height_in, late_in, late_of, method_in, offsets_in, pair_in, range_of, sun_in, sun_of, whole_within, zone_by, zone_in}
+use Rattle.order_reader.specs.Members.{asr_in, days_in, days_of, from_in, height_in, late_in, late_of, method_in, offsets_in, pair_in, range_of, sun_in, whole_within, zone_by, zone_in}
 use Rattle.order_reader.specs.Offsets.{is_day, is_zone, last_day, offsets_of}
 use Rattle.order_reader.specs.Reading as reading
-use Rattle.order_reader.specs.Reading.{Basis, Extras, asked_by, basis_of, district_in, district_of, extras_of, height_of, needed, night_of, optional, or_absent, order_in, order_of, unless_refused}
+use Rattle.order_reader.specs.Reading.{Basis, Extras, asked_by, basis_of, district_in, district_of, extras_of, height_of, needed, night_of, optional, or_absent, order_in, order_of, rule_in, unless_refused}
 use Rattle.order_reader.specs.Reads.{OrdersKeepTheRule, answer_by}
 use Rattle.order_reader.specs.Rule.{IsOrder}
 use Rattle.order_reader.specs.declared.date.Ymd.{Ymd}
@@ -35,16 +36,15 @@ use Rattle.region.specs.Faults.{first_fault}
 use Rattle.region.specs.Rings.{Polygon}
 use Rattle.region.proofs.Truth.{map_some}
 use Rattle.region.specs.declared.faults.RegionFault.{RegionFault}
-use Rattle.year_table.specs.Lines.{sun_word}
 use Rattle.year_table.specs.Rules.{is_rule}
-use Rattle.year_table.specs.declared.head.SunChoice.{SunChoice}
-use Rattle.year_table.specs.declared.head.SunChoice.TheVariants.{Usno}
+use Rattle.sun_choice.specs.declared.choice.SunChoice.{SunChoice}
+use Rattle.sun_choice.specs.declared.choice.SunChoice.TheVariants.{Usno}
 use Rattle.year_table.specs.declared.zone.Zone.{Zone}
 use Rattle.year_table.specs.declared.zone.Zone.TheVariants.{Fixed, Rule}
 
 -- Steps that succeed.
 
-or_ok : {A : Type 0} (o : Option A) (fault : OrderFault) (x : A) → ok_or o fault ≡ Ok x → o ≡ Some x
+pub or_ok : {A : Type 0} (o : Option A) (fault : OrderFault) (x : A) → ok_or o fault ≡ Ok x → o ≡ Some x
 or_ok (Some y) fault x e = cc
 or_ok None fault x e = absurd cc
 
@@ -56,6 +56,10 @@ optional_ok : {A : Type 0} (absent : A) (read : Tree → Result A OrderFault) (P
 optional_ok absent read P none some (Ok None) x e = (let same : absent ≡ x = cc in subst P same none)
 optional_ok absent read P none some (Ok (Some t)) x e = some t x e
 optional_ok absent read P none some (Err fault) x e = absurd cc
+
+since_ok : {A : Type 0} (absent : A) (read : Tree → Result A OrderFault) (P : A → Type 0) → P absent → ((t : Tree) (x : A) → read t ≡ Ok x → P x) → (r : Result Tree OrderFault) (stands : Bool) (x : A) → cond stands (r >>= read) (Ok absent) ≡ Ok x → P x
+since_ok absent read P none some r true x e = (let t = gave r read x e in some t.value x t.rest)
+since_ok absent read P none some r false x e = (let same : absent ≡ x = cc in subst P same none)
 
 -- The members.
 
@@ -143,18 +147,7 @@ late_kept : (method : Method) (t : Tree) (late : List (ℤ × ℤ)) → late_in 
 unfolding late_in
 late_kept method t late e = late_by method (option_and_then (each_of pair_in) (list_in t)) late e
 
-usno_word : (sun : SunChoice) (b : Bool) → cond b (Some Usno) None ≡ Some sun → sun ≡ Usno
-usno_word sun true e = cc
-usno_word sun false e = absurd cc
-
-sun_by : (o : Option (List ℕ)) (sun : SunChoice) → (ok_or o (Kind members.Sun) >>= λ word. ok_or (sun_of word) (Range members.Sun)) ≡ Ok sun → sun ≡ Usno
-sun_by None sun e = absurd cc
-sun_by (Some word) sun e = usno_word sun (bytes_eq (sun_word Usno) word) (or_ok (sun_of word) (Range members.Sun) sun e)
-
-sun_kept : (t : Tree) (sun : SunChoice) → sun_in t ≡ Ok sun → sun ≡ Usno
-sun_kept t sun e = sun_by (text_in t) sun e
-
-unless_refused_ok : (found polygons : List Polygon) (fault : Option RegionFault) → first_fault found ≡ fault → unless_refused found fault ≡ Ok polygons → first_fault polygons ≡ None
+pub unless_refused_ok : (found polygons : List Polygon) (fault : Option RegionFault) → first_fault found ≡ fault → unless_refused found fault ≡ Ok polygons → first_fault polygons ≡ None
 unless_refused_ok found polygons None is e = (let same : found ≡ polygons = cc in subst (λ p. first_fault p ≡ None) same is)
 unless_refused_ok found polygons (Some fault) is e = absurd cc
 
@@ -174,7 +167,7 @@ line_district_kept t polygons e = sound_by (list_in t) (Kind members.District) l
 
 -- Orders.
 
-record KeepsBasis (b : Basis) : Type 0 where
+pub record KeepsBasis (b : Basis) : Type 0 where
   day : is_day b.from_day ≡ true
   days : AreDays b.from_day b.days
   zone : is_zone b.zone ≡ true
@@ -213,57 +206,55 @@ module _ (from : Result Tree OrderFault) (days : Result Tree OrderFault) (method
       let zt = gave zone zone_in z.value z.first in
       basis_from f.value n.value m.value a.value z.value o.value b (cc) (from_kept ft.value f.value ft.rest) (days_kept f.value nt.value n.value nt.rest) (zone_kept zt.value z.value zt.rest) (offsets_kept f.value n.value z.value o.value o.first)
 
-basis_kept : (es : List Entry) (b : Basis) → basis_of es ≡ Ok b → KeepsBasis b
+pub basis_kept : (es : List Entry) (b : Basis) → basis_of es ≡ Ok b → KeepsBasis b
 unfolding basis_of
 basis_kept es b e =
     basis_by (needed members.From es) (needed members.Days es) (needed members.Method es >>= method_in) (needed members.Asr es >>= asr_in) (needed members.Zone es) b e
 
-record KeepsExtras (method : Method) (x : Extras) : Type 0 where
+pub record KeepsExtras (method : Method) (x : Extras) : Type 0 where
   low : x.height ≤ 9000
   late : may_be_late method x.late ≡ true
-  sun : x.sun ≡ Usno
 
-module _ (method : Method) (es : List Entry) where
+-- what is beside, of its members
+module _ (method : Method) (heights : Result ℕ OrderFault) (lates : Result (List (ℤ × ℤ)) OrderFault) (suns : Result SunChoice OrderFault) (nights : Result (Option NightRule) OrderFault) where
+  abbrev with_night : ℕ → List (ℤ × ℤ) → SunChoice → Option NightRule → Result Extras OrderFault
+  with_night h l s n = Ok (record { height = h; late = l; sun = s; night = n })
+
   abbrev with_sun : ℕ → List (ℤ × ℤ) → SunChoice → Result Extras OrderFault
-  with_sun h l s = night_of es >>= λ _. Ok (record { height = h; late = l; sun = s })
+  with_sun h l s = nights >>= with_night h l s
 
   abbrev with_late : ℕ → List (ℤ × ℤ) → Result Extras OrderFault
-  with_late h l = reading.sun_of es >>= with_sun h l
+  with_late h l = suns >>= with_sun h l
 
   abbrev with_height : ℕ → Result Extras OrderFault
-  with_height h = reading.late_of method es >>= with_late h
+  with_height h = lates >>= with_late h
 
-  extras_kept : (x : Extras) → extras_of method es ≡ Ok x → KeepsExtras method x
-  unfolding extras_of
-  extras_kept x e =
-      let h = gave (height_of es) with_height x e in
-      let l = gave (reading.late_of method es) (with_late h.value) x h.rest in
-      let s = gave (reading.sun_of es) (with_sun h.value l.value) x l.rest in
-      let n = gave (night_of es) (λ _. Ok (record { height = h.value; late = l.value; sun = s.value })) x s.rest in
-      let same : record { height = h.value; late = l.value; sun = s.value } ≡ x = cc in
-      subst (KeepsExtras method) same (record {
-        low = optional_ok 0 height_in (λ k. k ≤ 9000) (omega arith) height_kept (optional members.Height es) h.value h.first;
-        late = optional_ok [] (late_in method) (λ k. may_be_late method k ≡ true) refl (late_kept method) (optional members.LateIsha es) l.value l.first;
-        sun = optional_ok Usno sun_in (λ k. k ≡ Usno) refl sun_kept (optional members.Sun es) s.value s.first;
-      })
+  extras_by : ((h : ℕ) → heights ≡ Ok h → h ≤ 9000) → ((l : List (ℤ × ℤ)) → lates ≡ Ok l → may_be_late method l ≡ true) → (x : Extras) → (heights >>= with_height) ≡ Ok x → KeepsExtras method x
+  extras_by low late x e =
+      let h = gave heights with_height x e in
+      let l = gave lates (with_late h.value) x h.rest in
+      let s = gave suns (with_sun h.value l.value) x l.rest in
+      let n = gave nights (with_night h.value l.value s.value) x s.rest in
+      let same : record { height = h.value; late = l.value; sun = s.value; night = n.value } ≡ x = cc in
+      subst (KeepsExtras method) {x = record { height = h.value; late = l.value; sun = s.value; night = n.value }} same (record { low = low h.value h.first; late = late l.value l.first })
 
-  second_kept : (x : Extras) → second_extras_of method es ≡ Ok x → KeepsExtras method x
-  unfolding second_extras_of
-  second_kept x e =
-      let h = gave (needed members.Height es >>= height_in) (λ k. (needed members.LateIsha es >>= late_in method) >>= λ l. Ok (record { height = k; late = l; sun = Usno })) x e in
-      let l = gave (needed members.LateIsha es >>= late_in method) (λ k. Ok (record { height = h.value; late = k; sun = Usno })) x h.rest in
-      let ht = gave (needed members.Height es) height_in h.value h.first in
-      let lt = gave (needed members.LateIsha es) (late_in method) l.value l.first in
-      let same : record { height = h.value; late = l.value; sun = Usno } ≡ x = cc in
-      subst (KeepsExtras method) same (record { low = height_kept ht.value h.value ht.rest; late = late_kept method lt.value l.value lt.rest; sun = refl })
+pub extras_kept : (method : Method) (es : List Entry) (x : Extras) → extras_of method es ≡ Ok x → KeepsExtras method x
+unfolding extras_of
+extras_kept method es x e =
+    extras_by method (height_of es) (reading.late_of method es) (reading.sun_of es) (night_of es)
+    (λ h. optional_ok 0 height_in (λ k. k ≤ 9000) (omega arith) height_kept (optional members.Height es) h)
+    (λ l. optional_ok [] (late_in method) (λ k. may_be_late method k ≡ true) refl (late_kept method) (optional members.LateIsha es) l)
+    x e
 
-  line_extras_by : (b : Bool) (x : Extras) → cond b (second_extras_of method es) (Ok first_extras) ≡ Ok x → KeepsExtras method x
-  line_extras_by true x e = second_kept x e
-  line_extras_by false x e =
-      let same : first_extras ≡ x = cc in
-      subst (KeepsExtras method) same (record { low = omega arith; late = refl; sun = refl })
+line_extras_kept : (version : ℕ) (method : Method) (es : List Entry) (x : Extras) → line_extras_of version method es ≡ Ok x → KeepsExtras method x
+unfolding line_extras_of
+line_extras_kept version method es x e =
+    extras_by method (since 2 members.Height 0 height_in version es) (since 2 members.LateIsha [] (late_in method) version es) (since 3 members.Sun Usno sun_in version es) (since 4 members.Night None rule_in version es)
+    (λ h. since_ok 0 height_in (λ k. k ≤ 9000) (omega arith) height_kept (needed members.Height es) (nat_le 2 version) h)
+    (λ l. since_ok [] (late_in method) (λ k. may_be_late method k ≡ true) refl (late_kept method) (needed members.LateIsha es) (nat_le 2 version) l)
+    x e
 
-parts_kept : (b : Basis) (x : Extras) (polygons : List Polygon) (o : Asked) → KeepsBasis b → KeepsExtras b.method x → first_fault polygons ≡ None → asked_by b x polygons ≡ o → IsOrder o
+pub parts_kept : (b : Basis) (x : Extras) (polygons : List Polygon) (o : Asked) → KeepsBasis b → KeepsExtras b.method x → first_fault polygons ≡ None → asked_by b x polygons ≡ o → IsOrder o
 parts_kept b x polygons o basis extras sound same =
     subst IsOrder same (record {
       not_early = (day_bounds b.from_day basis.day).0;
@@ -274,7 +265,6 @@ parts_kept b x polygons o basis extras sound same =
       offset_each = basis.offsets;
       low = extras.low;
       late_in_range = extras.late;
-      known_sun = extras.sun;
       sound = sound;
     })
 
@@ -295,7 +285,7 @@ line_members_kept es o e =
     let x = gave (line_extras_of v.value b.value.method es) (λ x. (needed members.District es >>= line_district) >>= λ p. Ok (asked_by b.value x p)) o b.rest in
     let p = gave (needed members.District es >>= line_district) (λ p. Ok (asked_by b.value x.value p)) o x.rest in
     let t = gave (needed members.District es) line_district p.value p.first in
-    parts_kept b.value x.value p.value o (basis_kept es b.value b.first) (line_extras_by b.value.method es (nat_le 2 v.value) x.value x.first) (line_district_kept t.value p.value t.rest) cc
+    parts_kept b.value x.value p.value o (basis_kept es b.value b.first) (line_extras_kept v.value b.value.method es x.value x.first) (line_district_kept t.value p.value t.rest) cc
 
 -- what is read as an order is one
 pub order_kept : (t : Tree) (o : Asked) → order_in t ≡ Ok o → IsOrder o

@@ -1,10 +1,11 @@
 -- What an order asks for: an order without the proofs of its rule.
-use Rattle.std.specs.Prelude.{ℕ, ℤ, List}
+use Rattle.std.specs.Prelude.{ℕ, ℤ, List, Option}
 use Rattle.method_table.specs.declared.method.Asr.{Asr}
 use Rattle.method_table.specs.declared.method.Method.{Method}
+use Rattle.night_rule.specs.declared.rule.NightRule.{NightRule}
 use Rattle.order_reader.specs.declared.order.Order.{Order}
 use Rattle.region.specs.Rings.{Polygon}
-use Rattle.year_table.specs.declared.head.SunChoice.{SunChoice}
+use Rattle.sun_choice.specs.declared.choice.SunChoice.{SunChoice}
 use Rattle.year_table.specs.declared.zone.Zone.{Zone}
 
 pub record Asked : Type 0 where
@@ -20,6 +21,7 @@ pub record Asked : Type 0 where
   pub height : ℕ
   pub late : List (ℤ × ℤ)
   pub sun : SunChoice
+  pub night : Option NightRule
   pub district : List Polygon
 
 abbrev pub asked_of : Order → Asked
@@ -34,5 +36,6 @@ asked_of o =
       height = o.height;
       late = o.late;
       sun = o.sun;
+      night = o.night;
       district = o.district;
     }

@@ -114,6 +114,14 @@ feature_by _ es = None
 unfoldable pub feature_in : List Entry → Option (List Polygon)
 feature_in es = feature_by (form_in es) es
 
+abbrev pub features_by : Option Form → List Entry → Option (List Tree)
+features_by (Some collection_form) es = option_and_then list_in (member_in (codes "features") es)
+features_by _ es = None
+
+-- what a FeatureCollection has for its Features
+abbrev pub features_list : List Entry → Option (List Tree)
+features_list es = features_by (form_in es) es
+
 -- the item of a list of exactly one
 abbrev pub only_item : List Tree → Option Tree
 only_item (t ∷ []) = Some t

@@ -27,4 +27,4 @@ stated_version t = do
 -- no line that is read as an order states a lower version than the order's own line
 abbrev pub VersionsAreLeast : Type 0
 VersionsAreLeast =
-    (t : Tree) (o : Asked) (version : ℕ) → stated_version t ≡ Ok version → line_order_in t ≡ Ok o → version_of o.height o.late ≤ version
+    (t : Tree) (o : Asked) (version : ℕ) → stated_version t ≡ Ok version → line_order_in t ≡ Ok o → version_of o ≤ version

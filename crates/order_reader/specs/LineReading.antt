@@ -1,6 +1,6 @@
 -- The order of a canonical line's tree, or its first refusal: its version first, and then all members of that version, as those of
 -- an order are read. Other members are passed over.
-use Rattle.std.specs.Prelude.{ℕ, nat_le, pos, unsigned_abs, if◌then◌else◌, List, [], option_map, Result, Ok}
+use Rattle.std.specs.Prelude.{ℕ, nat_le, pos, unsigned_abs, if◌then◌else◌, List, [], None, option_map, Result, Ok}
 use Rattle.std.specs.Option.{ok_or}
 use Rattle.exact_json.specs.Tree.{Tree, Entry}
 use Rattle.method_table.specs.declared.method.Method.{Method}
@@ -8,32 +8,32 @@ use Rattle.order_reader.specs.Asked.{Asked}
 use Rattle.order_reader.specs.Geometry.{line_district_of}
 use Rattle.order_reader.specs.Gives.{◌>>=◌}
 use Rattle.order_reader.specs.Lookup.{list_in, number_in, object_in}
-use Rattle.order_reader.specs.Members.{height_in, late_in, whole_within}
-use Rattle.order_reader.specs.Reading.{Extras, asked_by, basis_of, district_of, needed}
+use Rattle.order_reader.specs.Members.{height_in, late_in, sun_in, whole_within}
+use Rattle.order_reader.specs.Reading.{Extras, asked_by, basis_of, district_of, needed, rule_in}
+use Rattle.order_reader.specs.declared.fault.Member.{Member}
 use Rattle.order_reader.specs.declared.fault.Member.TheVariants as members
 use Rattle.order_reader.specs.declared.fault.OrderFault.{OrderFault}
 use Rattle.order_reader.specs.declared.fault.OrderFault.TheVariants.{Kind, Range, Geometry}
 use Rattle.region.specs.Rings.{Polygon}
-use Rattle.year_table.specs.declared.head.SunChoice.TheVariants.{Usno}
+use Rattle.sun_choice.specs.declared.choice.SunChoice.TheVariants.{Usno}
 
--- 1, or 2
+-- 1 to 4
 unfoldable pub version_in : Tree → Result ℕ OrderFault
 version_in t = do
   number ← ok_or (number_in t) (Kind members.Version)
-  ok_or (option_map unsigned_abs (whole_within (pos 1) (pos 2) number)) (Range members.Version)
+  ok_or (option_map unsigned_abs (whole_within (pos 1) (pos 4) number)) (Range members.Version)
 
--- the members since the second version
-unfoldable pub second_extras_of : Method → List Entry → Result Extras OrderFault
-second_extras_of method es = do
-  height ← needed members.Height es >>= height_in
-  late ← needed members.LateIsha es >>= late_in method
-  Ok (record { height = height; late = late; sun = Usno })
+-- what a member says that each line has from some version on, or what is taken in an earlier one
+abbrev pub since : {A : Type 0} → ℕ → Member → A → (Tree → Result A OrderFault) → ℕ → List Entry → Result A OrderFault
+since first m absent read version es = if nat_le first version then needed m es >>= read else Ok absent
 
-abbrev pub first_extras : Extras
-first_extras = record { height = 0; late = []; sun = Usno }
-
-abbrev pub line_extras_of : ℕ → Method → List Entry → Result Extras OrderFault
-line_extras_of version method es = if nat_le 2 version then second_extras_of method es else Ok first_extras
+unfoldable pub line_extras_of : ℕ → Method → List Entry → Result Extras OrderFault
+line_extras_of version method es = do
+  height ← since 2 members.Height 0 height_in version es
+  late ← since 2 members.LateIsha [] (late_in method) version es
+  sun ← since 3 members.Sun Usno sun_in version es
+  night ← since 4 members.Night None rule_in version es
+  Ok (record { height = height; late = late; sun = sun; night = night })
 
 -- the district of lists of positions
 unfoldable pub line_district : Tree → Result (List Polygon) OrderFault

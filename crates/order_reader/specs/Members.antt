@@ -7,6 +7,8 @@ use Rattle.method_table.specs.Method.{asr_word, method_of}
 use Rattle.method_table.specs.declared.method.Asr.{Asr}
 use Rattle.method_table.specs.declared.method.Asr.TheVariants.{Standard, Hanafi}
 use Rattle.method_table.specs.declared.method.Method.{Method}
+use Rattle.night_rule.specs.Rule.{night_rule_of}
+use Rattle.night_rule.specs.declared.rule.NightRule.{NightRule}
 use Rattle.order_reader.specs.Dates.{day_of, ymd_in}
 use Rattle.order_reader.specs.declared.date.Ymd.{Ymd}
 use Rattle.order_reader.specs.Each.{each_of}
@@ -19,10 +21,9 @@ use Rattle.order_reader.specs.declared.fault.Member.{Member}
 use Rattle.order_reader.specs.declared.fault.Member.TheVariants.{From, Days, Method as MethodName, Asr as AsrName, Zone as ZoneName, Height, LateIsha, Sun, Night}
 use Rattle.order_reader.specs.declared.fault.OrderFault.{OrderFault}
 use Rattle.order_reader.specs.declared.fault.OrderFault.TheVariants.{Kind, Range}
-use Rattle.year_table.specs.Lines.{sun_word}
+use Rattle.sun_choice.specs.Choice.{sun_of}
 use Rattle.year_table.specs.Rules.{is_rule}
-use Rattle.year_table.specs.declared.head.SunChoice.{SunChoice}
-use Rattle.year_table.specs.declared.head.SunChoice.TheVariants.{Usno}
+use Rattle.sun_choice.specs.declared.choice.SunChoice.{SunChoice}
 use Rattle.year_table.specs.declared.zone.Zone.{Zone}
 use Rattle.year_table.specs.declared.zone.Zone.TheVariants.{Fixed, Rule}
 
@@ -104,16 +105,8 @@ late_in method t = do
   pairs ← ok_or (option_and_then (each_of pair_in) (list_in t)) (Kind LateIsha)
   ok_or (option_and_then (late_of method) (each_of range_of pairs)) (Range LateIsha)
 
--- the sun of Meeus isn't there yet
-abbrev pub sun_of : List ℕ → Option SunChoice
-sun_of word = find (λ s. bytes_eq (sun_word s) word) (Usno ∷ [])
-
 abbrev pub sun_in : Tree → Result SunChoice OrderFault
 sun_in t = word_in Sun sun_of t
 
--- no rule for the nights of high latitudes is there yet
-abbrev pub night_of : List ℕ → Option (Unit {0})
-night_of word = None
-
-abbrev pub night_in : Tree → Result (Unit {0}) OrderFault
-night_in t = word_in Night night_of t
+abbrev pub night_in : Tree → Result NightRule OrderFault
+night_in t = word_in Night night_rule_of t

@@ -5,6 +5,7 @@ use Rattle.std.specs.Option.{ok_or}
 use Rattle.exact_json.specs.Tree.{Tree, Entry}
 use Rattle.method_table.specs.declared.method.Asr.{Asr}
 use Rattle.method_table.specs.declared.method.Method.{Method}
+use Rattle.night_rule.specs.declared.rule.NightRule.{NightRule}
 use Rattle.order_reader.specs.Asked.{Asked}
 use Rattle.order_reader.specs.Geometry.{geometry_of}
 use Rattle.order_reader.specs.Gives.{◌>>=◌}
@@ -18,8 +19,8 @@ use Rattle.order_reader.specs.declared.fault.OrderFault.TheVariants.{Missing, Tw
 use Rattle.region.specs.Faults.{first_fault}
 use Rattle.region.specs.Rings.{Polygon}
 use Rattle.region.specs.declared.faults.RegionFault.{RegionFault}
-use Rattle.year_table.specs.declared.head.SunChoice.{SunChoice}
-use Rattle.year_table.specs.declared.head.SunChoice.TheVariants.{Usno}
+use Rattle.sun_choice.specs.declared.choice.SunChoice.{SunChoice}
+use Rattle.sun_choice.specs.declared.choice.SunChoice.TheVariants.{Usno}
 use Rattle.year_table.specs.declared.zone.Zone.{Zone}
 
 -- the value of a member that must stand once
@@ -74,21 +75,25 @@ late_of method es = optional members.LateIsha es >>= or_absent [] (late_in metho
 abbrev pub sun_of : List Entry → Result SunChoice OrderFault
 sun_of es = optional members.Sun es >>= or_absent Usno sun_in
 
-abbrev pub night_of : List Entry → Result (Unit {0}) OrderFault
-night_of es = optional members.Night es >>= or_absent tt night_in
+abbrev pub rule_in : Tree → Result (Option NightRule) OrderFault
+rule_in t = night_in t >>= λ rule. Ok (Some rule)
+
+abbrev pub night_of : List Entry → Result (Option NightRule) OrderFault
+night_of es = optional members.Night es >>= or_absent None rule_in
 
 pub record Extras : Type 0 where
   pub height : ℕ
   pub late : List (ℤ × ℤ)
   pub sun : SunChoice
+  pub night : Option NightRule
 
 unfoldable pub extras_of : Method → List Entry → Result Extras OrderFault
 extras_of method es = do
   height ← height_of es
   late ← late_of method es
   sun ← sun_of es
-  _ ← night_of es
-  Ok (record { height = height; late = late; sun = sun })
+  night ← night_of es
+  Ok (record { height = height; late = late; sun = sun; night = night })
 
 -- polygons that are a district
 abbrev pub unless_refused : List Polygon → Option RegionFault → Result (List Polygon) OrderFault
@@ -117,6 +122,7 @@ asked_by b x polygons =
       height = x.height;
       late = x.late;
       sun = x.sun;
+      night = x.night;
       district = polygons;
     }
 

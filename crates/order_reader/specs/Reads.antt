@@ -17,11 +17,11 @@ json_refusal NoMemory = OutOfMemory
 json_refusal fault = Json fault
 
 -- what bytes answer by a reading of trees
-abbrev pub answer_by : (Tree → Result Asked OrderFault) → Result Tree JsonFault → Result Asked OrderFault
+abbrev pub answer_by : {A : Type 0} → (Tree → Result A OrderFault) → Result Tree JsonFault → Result A OrderFault
 answer_by reading (Ok t) = reading t
 answer_by reading (Err fault) = Err (Json fault)
 
-abbrev pub ReadsBy : (Tree → Result Asked OrderFault) → List ℕ → Result Asked OrderFault → Type 0
+abbrev pub ReadsBy : {A : Type 0} → (Tree → Result A OrderFault) → List ℕ → Result A OrderFault → Type 0
 ReadsBy reading bytes x = (r : Result Tree JsonFault) × Reading bytes r × (x ≡ answer_by reading r)
 
 -- as an order

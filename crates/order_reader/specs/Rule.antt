@@ -4,7 +4,6 @@ use Rattle.order_reader.specs.Asked.{Asked}
 use Rattle.order_reader.specs.Late.{may_be_late}
 use Rattle.order_reader.specs.Offsets.{first_day, is_zone, last_day, offsets_of}
 use Rattle.region.specs.Faults.{first_fault}
-use Rattle.year_table.specs.declared.head.SunChoice.TheVariants.{Usno}
 
 pub record IsOrder (o : Asked) : Type 0 where
   pub not_early : first_day ≤ℤ o.from_day
@@ -15,5 +14,4 @@ pub record IsOrder (o : Asked) : Type 0 where
   pub offset_each : offsets_of o.zone o.from_day o.days ≡ Some o.offsets
   pub low : o.height ≤ 9000
   pub late_in_range : may_be_late o.method o.late ≡ true
-  pub known_sun : o.sun ≡ Usno
   pub sound : first_fault o.district ≡ None

@@ -2,7 +2,7 @@
 ghost use Rattle.std.specs.Prelude.{◌≡◌, option_map, option_and_then, codes};
 ghost use Rattle.exact_json.specs.View.{tree_of, items_of, entries_of};
 ghost use Rattle.order_reader.specs.Lookup.{object_in, find_member};
-ghost use Rattle.order_reader.specs.Geometry.{Answers, form_named, form_word, form_in, geometry_of, has_doubles, is_again, line_district_of, member_in, feature_in, only_feature, only_item, one_polygon_in, shape_in};
+ghost use Rattle.order_reader.specs.Geometry.{Answers, form_named, form_word, form_in, features_list, geometry_of, has_doubles, is_again, line_district_of, member_in, feature_in, only_feature, only_item, one_polygon_in, shape_in};
 ghost use Rattle.region.specs.Vectors.{polygons_in};
 
 use crate::lookup::{Found, find_member, list_in, object_in, text_in};
@@ -111,13 +111,27 @@ fn geometry_of_feature(table: &JsonTable) -> Option<&JsonTable>
     object_in(member_in(table, "geometry")?)
 }
 
+/// The polygons of a Feature with a Polygon or a MultiPolygon, in microdegrees.
 #[tactic(auto, unfolding(crate::specs::Geometry::feature_in))]
-fn feature_in(alloc: Global, table: &JsonTable) -> Result<Vec<Vec<Vec<(i64, i64)>>>, GeometryFault>
+pub fn feature_in(
+    alloc: Global,
+    table: &JsonTable,
+) -> Result<Vec<Vec<Vec<(i64, i64)>>>, GeometryFault>
     ensures { Answers (λ v. polygons_in v.items) result (feature_in (entries_of table.now)) }
 {
     match (form_in(table), geometry_of_feature(table)) {
         (Some(Form::Feature), Some(geometry)) => shape_in(alloc, geometry),
         _ => Err(GeometryFault::NotGeometry),
+    }
+}
+
+/// What a FeatureCollection has for its Features.
+pub fn features_list(table: &JsonTable) -> Option<&JsonList>
+    ensures { option_map (λ l. items_of l.now) result ≡ features_list (entries_of table.now) }
+{
+    match form_in(table) {
+        Some(Form::FeatureCollection) => list_in(member_in(table, "features")?),
+        _ => None,
     }
 }
 
@@ -152,7 +166,7 @@ fn collection_in(
 /// The polygons of an object of GeoJSON, in microdegrees: of a Polygon, a MultiPolygon, a Feature with
 /// one of these, or a FeatureCollection with exactly one such Feature.
 #[tactic(auto, unfolding(crate::specs::Geometry::geometry_of))]
-pub(crate) fn read_geometry(
+pub fn read_geometry(
     alloc: Global,
     table: &JsonTable,
 ) -> Result<Vec<Vec<Vec<(i64, i64)>>>, GeometryFault>

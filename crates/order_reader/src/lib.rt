@@ -15,6 +15,7 @@ mod members;
 mod offsets;
 mod order;
 mod parts;
+pub mod pieces;
 mod positions;
 mod ranges;
 mod read;

@@ -1,17 +1,19 @@
 // The canonical line of an order.
-ghost use Rattle.std.specs.Prelude.{◌≡◌, ◌<◌, ◌≤◌, ◌≤ℤ◌, ◌++◌, neg_ℤ, pos, IfOk, OnOk, length, slice_index_or, [], true};
+ghost use Rattle.std.specs.Prelude.{◌≡◌, ◌<◌, ◌≤◌, ◌≤ℤ◌, ◌++◌, neg_ℤ, pos, IfOk, OnOk, length, slice_index_or, [], true, Some};
 ghost use Rattle.std.specs.List.{list_all};
 ghost use Rattle.std.specs.String.{string_bytes};
 ghost use Rattle.year_table.specs.Dates.{date_text};
 ghost use Rattle.order_reader.specs.Asked.{asked_of};
 ghost use Rattle.order_reader.specs.Late.{is_range};
-ghost use Rattle.order_reader.specs.Line.{version_of, version_text, days_text, span_text, height_text, zone_text, words_by, words_text, range_text, items_text, list_text, comma_before, extras_text, position_text, ring_text, polygon_text, district_text, order_line};
+ghost use Rattle.order_reader.specs.Line.{is_plain, version_of, version_text, days_text, span_text, height_text, sun_text, night_text, second_text, third_text, extras_by, zone_text, words_by, words_text, range_text, items_text, list_text, comma_before, position_text, ring_text, polygon_text, district_text, order_line};
 
 use crate::order::Order;
 use method_table::{Asr, Method, asr_word, method_word};
+use night_rule::{NightRule, night_word};
 use no_memory::NoMemory;
 use region::District;
 use std::alloc::Global;
+use sun_choice::{SunChoice, sun_word};
 use year_table::{Zone, date_text};
 
 /// The canonical line of an order, with its LF: the order's one text, which `read_order_line` reads
@@ -21,9 +23,10 @@ pub fn order_line(alloc: Global, o: &Order) -> Result<Vec<u8>, NoMemory>
     ensures { IfOk result (λ t. t.items ≡ order_line (asked_of o.now)) }
 {
     let mut line = Vec::new(alloc);
-    push_span(alloc, &mut line, o)?;
+    let version = version_of(o);
+    push_span(alloc, &mut line, o, version)?;
     push_words(alloc, &mut line, o.method, o.asr, &o.zone)?;
-    push_extras(alloc, &mut line, o)?;
+    push_extras(alloc, &mut line, o, version)?;
     append(&mut line, ",\"district\":")?;
     push_district(alloc, &mut line, &o.district)?;
     append(&mut line, "}\n")?;
@@ -47,20 +50,27 @@ fn push_date(alloc: Global, line: &mut Vec<u8>, day: i32) -> Result<(), NoMemory
     Ok(())
 }
 
-fn version_of(o: &Order) -> u32
-    ensures { result ≡ version_of o.now.height o.now.late }
+fn is_plain(o: &Order) -> bool
+    ensures { result ≡ is_plain o.now.height o.now.late }
 {
-    if o.height == 0 && o.late.pairs().is_empty() {
-        1
-    } else {
-        2
+    o.height == 0 && o.late.pairs().is_empty()
+}
+
+fn version_of(o: &Order) -> u32
+    ensures { result ≡ version_of (asked_of o.now) }
+{
+    match (o.sun, o.night) {
+        (_, Some(_)) => 4,
+        (SunChoice::Meeus, None) => 3,
+        (SunChoice::Usno, None) if is_plain(o) => 1,
+        (SunChoice::Usno, None) => 2,
     }
 }
 
-fn push_span(alloc: Global, line: &mut Vec<u8>, o: &Order) -> Result<(), NoMemory>
-    ensures { OnOk result (line.new.items ≡ line.old.items ++ span_text (version_of o.now.height o.now.late) o.now.from_day o.now.days) }
+fn push_span(alloc: Global, line: &mut Vec<u8>, o: &Order, version: u32) -> Result<(), NoMemory>
+    ensures { OnOk result (line.new.items ≡ line.old.items ++ span_text version o.now.from_day o.now.days) }
 {
-    let version = version_string(alloc, version_of(o))?;
+    let version = version_string(alloc, version)?;
     let days = days_string(alloc, o.days)?;
     append(line, version.as_str())?;
     push_date(alloc, line, o.from_day)?;
@@ -109,16 +119,62 @@ fn zone_string(alloc: Global, zone: &Zone) -> Result<String, NoMemory>
     }
 }
 
-fn push_extras(alloc: Global, line: &mut Vec<u8>, o: &Order) -> Result<(), NoMemory>
-    ensures { OnOk result (line.new.items ≡ line.old.items ++ extras_text o.now.height o.now.late) }
+fn push_second(alloc: Global, line: &mut Vec<u8>, o: &Order, version: u32) -> Result<(), NoMemory>
+    ensures { OnOk result (line.new.items ≡ line.old.items ++ second_text version o.now.height o.now.late) }
 {
-    if version_of(o) == 1 {
+    if version < 2 {
         return Ok(());
     }
     let height = height_string(alloc, o.height)?;
     append(line, height.as_str())?;
     push_late(alloc, line, o.late.pairs())?;
     Ok(())
+}
+
+fn push_third(
+    alloc: Global,
+    line: &mut Vec<u8>,
+    sun: SunChoice,
+    version: u32,
+) -> Result<(), NoMemory>
+    ensures { OnOk result (line.new.items ≡ line.old.items ++ third_text version sun) }
+{
+    if version < 3 {
+        return Ok(());
+    }
+    let sun = sun_string(alloc, sun)?;
+    append(line, sun.as_str())
+}
+
+fn push_night(alloc: Global, line: &mut Vec<u8>, night: Option<NightRule>) -> Result<(), NoMemory>
+    ensures { OnOk result (line.new.items ≡ line.old.items ++ night_text night) }
+{
+    let Some(rule) = night else {
+        return Ok(());
+    };
+    let night = night_string(alloc, rule)?;
+    append(line, night.as_str())
+}
+
+fn push_extras(alloc: Global, line: &mut Vec<u8>, o: &Order, version: u32) -> Result<(), NoMemory>
+    ensures { OnOk result (line.new.items ≡ line.old.items ++ extras_by version (asked_of o.now)) }
+{
+    push_second(alloc, line, o, version)?;
+    push_third(alloc, line, o.sun, version)?;
+    push_night(alloc, line, o.night)?;
+    Ok(())
+}
+
+fn sun_string(alloc: Global, sun: SunChoice) -> Result<String, NoMemory>
+    ensures { IfOk result (λ s. string_bytes s ≡ sun_text sun) }
+{
+    Ok(format!(in alloc; ",\"sun\":\"{}\"", sun_word(sun))?)
+}
+
+fn night_string(alloc: Global, rule: NightRule) -> Result<String, NoMemory>
+    ensures { IfOk result (λ s. string_bytes s ≡ night_text (Some rule)) }
+{
+    Ok(format!(in alloc; ",\"night\":\"{}\"", night_word(rule))?)
 }
 
 fn height_string(alloc: Global, height: u32) -> Result<String, NoMemory>

@@ -33,7 +33,8 @@ pub(crate) fn list_in(value: &Json) -> Option<&JsonList>
     }
 }
 
-pub(crate) fn object_in(value: &Json) -> Option<&JsonTable>
+/// The members of an object.
+pub fn object_in(value: &Json) -> Option<&JsonTable>
     ensures { option_map (λ t. entries_of t.now) result ≡ object_in (tree_of value.now) }
 {
     match value {
@@ -44,7 +45,7 @@ pub(crate) fn object_in(value: &Json) -> Option<&JsonTable>
 
 /// What stands under a name: no member, one, or more than one.
 #[derive(Clone, Copy)]
-pub(crate) enum Found<'a> {
+pub enum Found<'a> {
     Absent,
     Once(&'a Json),
     Again,
@@ -59,7 +60,8 @@ fn with_more<'a>(found: Found<'a>, value: &'a Json) -> Found<'a>
     }
 }
 
-pub(crate) fn find_member<'a>(table: &'a JsonTable, name: &str) -> Found<'a>
+/// What stands under a name among an object's members.
+pub fn find_member<'a>(table: &'a JsonTable, name: &str) -> Found<'a>
     ensures { found_of result ≡ find_member name.now (entries_of table.now) }
 {
     let mut found = Found::Absent;

@@ -1,11 +1,11 @@
 // What the members of an order say.
-ghost use Rattle.std.specs.Prelude.{◌≡◌, length, ◌≤◌, ◌≤ℤ◌, ◌+ℤ◌, pos, true, IfOk, IfSome, Result, option_map};
+ghost use Rattle.std.specs.Prelude.{◌≡◌, length, ◌≤◌, ◌≤ℤ◌, ◌+ℤ◌, pos, true, IfOk, Result, option_map};
 ghost use Rattle.exact_json.specs.View.{tree_of, entries_of};
 ghost use Rattle.order_reader.specs.Gives.{Gives};
 ghost use Rattle.order_reader.specs.Lookup.{list_in, number_in, text_in};
-ghost use Rattle.order_reader.specs.Members.{asr_in, asr_of, days_in, from_in, height_in, method_in, night_in, offsets_in, sun_in, sun_of, whole_within, zone_in, zone_of_number, zone_of_text};
+ghost use Rattle.order_reader.specs.Members.{asr_in, asr_of, days_in, from_in, height_in, method_in, night_in, offsets_in, sun_in, whole_within, zone_in, zone_of_number, zone_of_text};
 ghost use Rattle.order_reader.specs.Offsets.{first_day, is_day, is_zone, last_day, offsets_of};
-ghost use Rattle.order_reader.specs.Reading.{needed, optional};
+ghost use Rattle.order_reader.specs.Reading.{needed, optional, rule_in};
 
 use crate::date::{day_of, ymd_in};
 use crate::fault::{Member, OrderFault, member_word};
@@ -13,11 +13,13 @@ use crate::lookup::{Found, find_member, list_in, number_in, text_in};
 use crate::offsets::{Offsets, offsets_of};
 use exact_json::{Decimal, Json, JsonTable};
 use method_table::{Asr, Method, asr_word, method_of};
+use night_rule::{NightRule, night_rule_of};
 use std::alloc::Global;
-use year_table::{RuleFault, SunChoice, Zone, read_rule, sun_word};
+use sun_choice::{SunChoice, sun_of};
+use year_table::{RuleFault, Zone, read_rule};
 
 /// The value of a member that must stand once.
-pub(crate) fn needed<'a>(table: &'a JsonTable, member: Member) -> Result<&'a Json, OrderFault>
+pub fn needed<'a>(table: &'a JsonTable, member: Member) -> Result<&'a Json, OrderFault>
     ensures { Gives (λ v. tree_of v.now) result (needed member (entries_of table.now)) }
 {
     match find_member(table, member_word(member)) {
@@ -192,20 +194,9 @@ pub(crate) fn height_in(value: &Json) -> Result<u32, OrderFault>
     }
 }
 
-fn sun_of(word: &str) -> Option<SunChoice>
-    ensures given { result ≡ sun_of word.now }
-    ensures known { IfSome result (λ sun. sun ≡ SunChoice.Usno) }
-{
-    if sun_word(SunChoice::Usno) == word {
-        Some(SunChoice::Usno)
-    } else {
-        None
-    }
-}
-
+/// Whose sun the entries are judged by.
 pub(crate) fn sun_in(value: &Json) -> Result<SunChoice, OrderFault>
-    ensures given { Gives (λ sun. sun) result (sun_in (tree_of value.now)) }
-    ensures known { IfOk result (λ sun. sun ≡ SunChoice.Usno) }
+    ensures { Gives (λ sun. sun) result (sun_in (tree_of value.now)) }
 {
     let Some(word) = text_in(value) else {
         return Err(OrderFault::Kind(Member::Sun));
@@ -216,12 +207,22 @@ pub(crate) fn sun_in(value: &Json) -> Result<SunChoice, OrderFault>
     }
 }
 
-/// No rule for the nights of high latitudes is there yet.
-pub(crate) fn night_in(value: &Json) -> Result<(), OrderFault>
-    ensures { Gives (λ none. none) result (night_in (tree_of value.now)) }
+/// The rule for nights of high latitudes.
+pub(crate) fn night_in(value: &Json) -> Result<NightRule, OrderFault>
+    ensures { Gives (λ rule. rule) result (night_in (tree_of value.now)) }
 {
-    match text_in(value) {
-        Some(_) => Err(OrderFault::Range(Member::Night)),
-        None => Err(OrderFault::Kind(Member::Night)),
+    let Some(word) = text_in(value) else {
+        return Err(OrderFault::Kind(Member::Night));
+    };
+    match night_rule_of(word) {
+        Some(rule) => Ok(rule),
+        None => Err(OrderFault::Range(Member::Night)),
     }
+}
+
+/// The same, where a rule may be lacking.
+pub(crate) fn rule_in(value: &Json) -> Result<Option<NightRule>, OrderFault>
+    ensures { Gives (λ night. night) result (rule_in (tree_of value.now)) }
+{
+    Ok(Some(night_in(value)?))
 }

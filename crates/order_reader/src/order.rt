@@ -3,13 +3,14 @@ ghost use Rattle.std.specs.Prelude.{◌≡◌, ◌≤◌, ◌≤ℤ◌, ◌+ℤ�
 ghost use Rattle.order_reader.specs.Late.{interval_on, may_be_late};
 ghost use Rattle.order_reader.specs.Offsets.{first_day, is_zone, last_day, offsets_of};
 ghost use Rattle.region.specs.Faults.{first_fault};
-ghost use Rattle.year_table.specs.declared.head.SunChoice.TheVariants.{Usno};
 
 use crate::offsets::Offsets;
 use crate::ranges::Ranges;
 use method_table::{Asr, Method};
+use night_rule::NightRule;
 use region::District;
-use year_table::{SunChoice, Zone};
+use sun_choice::SunChoice;
+use year_table::Zone;
 
 /// What a table is asked for. Days count from 1970-01-01 and are from 1900-01-01 to 2100-12-31.
 #[derive(Drop)]
@@ -28,6 +29,8 @@ pub struct Order {
     /// When Isha is later: at most eight ranges, and none unless the method is Makkah's.
     pub late: Ranges,
     pub sun: SunChoice,
+    /// How Fajr and Isha of nights of high latitudes are bounded, if they are.
+    pub night: Option<NightRule>,
     pub district: District,
     pub ghost not_early: { first_day ≤ℤ from_day },
     pub ghost not_late: { (from_day +ℤ pos days) ≤ℤ (last_day +ℤ pos 1) },
@@ -38,7 +41,6 @@ pub struct Order {
     pub ghost one_each: { length offsets ≡ days },
     pub ghost low: { height ≤ 9000 },
     pub ghost late_in_range: { may_be_late method late ≡ true },
-    pub ghost known_sun: { sun ≡ Usno },
     pub ghost sound: { first_fault district ≡ None },
 }
 

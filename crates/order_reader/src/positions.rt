@@ -11,7 +11,7 @@ use std::alloc::{AllocError, AllocFailed, Global};
 
 /// Why no polygons were read.
 #[derive(Clone, Copy, Debug, PartialEq, Eq)]
-pub(crate) enum GeometryFault {
+pub enum GeometryFault {
     NotGeometry,
     NoMemory,
 }

@@ -4,7 +4,7 @@ ghost use Rattle.exact_json.specs.View.{entries_of, tree_of};
 ghost use Rattle.order_reader.specs.Asked.{asked_of};
 ghost use Rattle.order_reader.specs.Gives.{Gives};
 ghost use Rattle.order_reader.specs.Late.{may_be_late};
-ghost use Rattle.order_reader.specs.Members.{asr_in, days_in, from_in, height_in, late_in, method_in, night_in, offsets_in, sun_in, zone_in};
+ghost use Rattle.order_reader.specs.Members.{asr_in, days_in, from_in, height_in, late_in, method_in, offsets_in, sun_in, zone_in};
 ghost use Rattle.order_reader.specs.Parts.{basis_view, extras_view};
 ghost use Rattle.order_reader.specs.Reading.{asked_by, basis_of, district_in, district_of, extras_of, height_of, late_of, night_of, order_in, order_of, sun_of};
 ghost use Rattle.region.specs.Faults.{first_fault};
@@ -16,7 +16,7 @@ use crate::geometry::read_geometry;
 use crate::late::late_in;
 use crate::lookup::object_in;
 use crate::members::{
-    asr_in, days_in, from_in, height_in, method_in, needed, night_in, offsets_in, optional, sun_in,
+    asr_in, days_in, from_in, height_in, method_in, needed, offsets_in, optional, rule_in, sun_in,
     zone_in,
 };
 use crate::order::Order;
@@ -25,13 +25,14 @@ use crate::positions::GeometryFault;
 use crate::ranges::Ranges;
 use exact_json::{Json, JsonFault, JsonTable, read};
 use method_table::Method;
+use night_rule::NightRule;
 use region::{District, RegionFault};
 use std::alloc::Global;
-use year_table::SunChoice;
+use sun_choice::SunChoice;
 
 /// What every order says.
 #[tactic(auto, unfolding(crate::specs::Reading::basis_of))]
-pub(crate) fn basis_of(alloc: Global, table: &JsonTable) -> Result<Basis, OrderFault>
+pub fn basis_of(alloc: Global, table: &JsonTable) -> Result<Basis, OrderFault>
     ensures { Gives basis_view result (basis_of (entries_of table.now)) }
 {
     let from_day = from_in(needed(table, Member::From)?)?;
@@ -72,8 +73,7 @@ fn late_of(alloc: Global, table: &JsonTable, method: Method) -> Result<Ranges, O
 }
 
 fn sun_of(table: &JsonTable) -> Result<SunChoice, OrderFault>
-    ensures given { Gives (λ sun. sun) result (sun_of (entries_of table.now)) }
-    ensures known { IfOk result (λ sun. sun ≡ SunChoice.Usno) }
+    ensures { Gives (λ sun. sun) result (sun_of (entries_of table.now)) }
 {
     match optional(table, Member::Sun)? {
         Some(value) => sun_in(value),
@@ -81,30 +81,35 @@ fn sun_of(table: &JsonTable) -> Result<SunChoice, OrderFault>
     }
 }
 
-fn night_of(table: &JsonTable) -> Result<(), OrderFault>
-    ensures { Gives (λ none. none) result (night_of (entries_of table.now)) }
+fn night_of(table: &JsonTable) -> Result<Option<NightRule>, OrderFault>
+    ensures { Gives (λ night. night) result (night_of (entries_of table.now)) }
 {
     match optional(table, Member::Night)? {
-        Some(value) => night_in(value),
-        None => Ok(()),
+        Some(value) => rule_in(value),
+        None => Ok(None),
     }
 }
 
-// what an order may say beside
+/// What an order of the method may say beside.
 #[tactic(auto, unfolding(crate::specs::Reading::extras_of))]
-fn extras_of(alloc: Global, table: &JsonTable, method: Method) -> Result<Extras, OrderFault>
+pub fn extras_of(alloc: Global, table: &JsonTable, method: Method) -> Result<Extras, OrderFault>
     ensures given { Gives extras_view result (extras_of method (entries_of table.now)) }
     ensures late { IfOk result (λ x. may_be_late method x.late ≡ true) }
 {
     let height = height_of(table)?;
     let late = late_of(alloc, table, method)?;
     let sun = sun_of(table)?;
-    night_of(table)?;
-    Ok(Extras { height, late, sun })
+    let night = night_of(table)?;
+    Ok(Extras {
+        height,
+        late,
+        sun,
+        night,
+    })
 }
 
 /// The district of polygons, each a list of rings of positions in microdegrees.
-pub(crate) fn district_of(
+pub fn district_of(
     alloc: Global,
     polygons: Vec<Vec<Vec<(i64, i64)>>>,
 ) -> Result<District, OrderFault>
@@ -134,7 +139,7 @@ fn district_in(alloc: Global, value: &Json) -> Result<District, OrderFault>
 }
 
 /// The order of its parts.
-pub(crate) fn order_with(basis: Basis, extras: Extras, district: District) -> Order
+pub fn order_with(basis: Basis, extras: Extras, district: District) -> Order
     requires late { may_be_late basis.method extras.late ≡ true }
     requires sound { first_fault district ≡ None }
     ensures { asked_of result ≡ asked_by (basis_view basis) (extras_view extras) district }
@@ -149,6 +154,7 @@ pub(crate) fn order_with(basis: Basis, extras: Extras, district: District) -> Or
         height: extras.height,
         late: extras.late,
         sun: extras.sun,
+        night: extras.night,
         district,
     }
 }
@@ -163,8 +169,9 @@ fn order_of(alloc: Global, table: &JsonTable) -> Result<Order, OrderFault>
     Ok(order_with(basis, extras, district))
 }
 
+/// The order of a value, or its first refusal.
 #[tactic(auto, unfolding(crate::specs::Reading::order_in))]
-fn order_in(alloc: Global, value: &Json) -> Result<Order, OrderFault>
+pub fn order_in(alloc: Global, value: &Json) -> Result<Order, OrderFault>
     ensures { Gives asked_of result (order_in (tree_of value.now)) }
 {
     let Some(table) = object_in(value) else {
@@ -173,8 +180,8 @@ fn order_in(alloc: Global, value: &Json) -> Result<Order, OrderFault>
     order_of(alloc, table)
 }
 
-// bytes that are no JSON text
-pub(crate) fn json_refusal(fault: JsonFault) -> OrderFault
+/// The refusal of bytes that are no JSON text.
+pub fn json_refusal(fault: JsonFault) -> OrderFault
     ensures { result ≡ json_refusal fault }
 {
     match fault {
@@ -184,8 +191,8 @@ pub(crate) fn json_refusal(fault: JsonFault) -> OrderFault
 }
 
 /// Reads an order: a JSON text (RFC 8259) within its limits whose value is an object with the members
-/// `from`, `days`, `method`, `asr`, `zone` and `district`, each once, and perhaps `height` and
-/// `late_isha`. Other members are passed over. The answer is the order, or its first refusal: of the
+/// `from`, `days`, `method`, `asr`, `zone` and `district`, each once, and perhaps `height`,
+/// `late_isha`, `sun` and `night`. Other members are passed over. The answer is the order, or its first refusal: of the
 /// text, and then of the members in the order `from`, `days`, `method`, `asr`, `zone`, `height`,
 /// `late_isha`, `sun`, `night`, `district`, of each that it is missing, stands twice, is of another
 /// kind, or out of its range.

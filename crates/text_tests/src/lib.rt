@@ -9,8 +9,12 @@ mod dates;
 #[cfg(test)]
 mod json_texts;
 #[cfg(test)]
+mod order_faults;
+#[cfg(test)]
 mod order_lines;
 #[cfg(test)]
 mod orders;
+#[cfg(test)]
+mod sets;
 #[cfg(test)]
 mod streams;

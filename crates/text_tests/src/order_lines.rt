@@ -32,7 +32,7 @@ fn line_again(alloc: Global, line: &str) -> Result<String, AllocError> {
 }
 
 // Each order with its canonical line.
-const LINES: [(&str, &str); 4] = [
+const LINES: [(&str, &str); 7] = [
     (
         r#"{"from":"2025-03-01","days":1,"method":"mwl","asr":"standard","zone":180,"district":{"type":"Polygon","coordinates":[[[39,21],[40,21],[40,22],[39,22],[39,21]]]}}"#,
         r#"{"version":1,"from":"2025-03-01","days":1,"method":"mwl","asr":"standard","zone":180,"district":[[[[39000000,21000000],[40000000,21000000],[40000000,22000000],[39000000,22000000],[39000000,21000000]]]]}
@@ -51,6 +51,21 @@ const LINES: [(&str, &str); 4] = [
     (
         r#"{"from":"2000-02-29","days":1,"method":"jafari","asr":"standard","zone":0,"height":0,"late_isha":[],"sun":"usno","district":{"type":"MultiPolygon","coordinates":[[[[0,0],[1,0],[0,1],[0,0]],[[1,1],[1,1],[1,1],[1,1]]],[[[2,2],[2,2],[2,2],[2,2]]]]}}"#,
         r#"{"version":1,"from":"2000-02-29","days":1,"method":"jafari","asr":"standard","zone":0,"district":[[[[0,0],[1000000,0],[0,1000000],[0,0]],[[1000000,1000000],[1000000,1000000],[1000000,1000000],[1000000,1000000]]],[[[2000000,2000000],[2000000,2000000],[2000000,2000000],[2000000,2000000]]]]}
+"#,
+    ),
+    (
+        r#"{"from":"2025-03-01","days":1,"method":"mwl","asr":"standard","zone":180,"sun":"meeus","district":{"type":"Polygon","coordinates":[[[39,21],[40,21],[40,22],[39,21]]]}}"#,
+        r#"{"version":3,"from":"2025-03-01","days":1,"method":"mwl","asr":"standard","zone":180,"height":0,"late_isha":[],"sun":"meeus","district":[[[[39000000,21000000],[40000000,21000000],[40000000,22000000],[39000000,21000000]]]]}
+"#,
+    ),
+    (
+        r#"{"from":"2025-03-01","days":1,"method":"mwl","asr":"standard","zone":180,"night":"seventh","district":{"type":"Polygon","coordinates":[[[39,21],[40,21],[40,22],[39,21]]]}}"#,
+        r#"{"version":4,"from":"2025-03-01","days":1,"method":"mwl","asr":"standard","zone":180,"height":0,"late_isha":[],"sun":"usno","night":"seventh","district":[[[[39000000,21000000],[40000000,21000000],[40000000,22000000],[39000000,21000000]]]]}
+"#,
+    ),
+    (
+        r#"{"from":"2025-03-01","days":1,"method":"makkah","asr":"standard","zone":180,"night":"angle","sun":"meeus","height":9000,"late_isha":[["2025-03-01","2025-03-01"]],"district":{"type":"Polygon","coordinates":[[[39,21],[40,21],[40,22],[39,21]]]}}"#,
+        r#"{"version":4,"from":"2025-03-01","days":1,"method":"makkah","asr":"standard","zone":180,"height":9000,"late_isha":[["2025-03-01","2025-03-01"]],"sun":"meeus","night":"angle","district":[[[[39000000,21000000],[40000000,21000000],[40000000,22000000],[39000000,21000000]]]]}
 "#,
     ),
 ];

@@ -1,10 +1,9 @@
 // Orders, right ones and wrong ones, with the first refusal of each.
-use exact_json::JsonFault;
+use crate::order_faults::fault_text;
 use order_reader::{
-    OrderFault, every_text_is_read_or_refused, line_readings_agree, member_word,
-    order_readings_agree, orders_keep_the_rule, read_order, read_order_line,
+    every_text_is_read_or_refused, line_readings_agree, order_readings_agree, orders_keep_the_rule,
+    read_order, read_order_line,
 };
-use region::RegionFault;
 use std::alloc::{AllocError, Global};
 use std::process::Abort;
 use std::test::Fail;
@@ -15,42 +14,6 @@ const ORDER: &str =
 
 const LINE: &str =
     r#"{"version":1,"from":"2025-03-01","days":1,"method":"mwl","asr":"standard","zone":180,"district":[[[[39000000,21000000],[40000000,21000000],[40000000,22000000],[39000000,21000000]]]]}"#;
-
-fn region_text(alloc: Global, fault: RegionFault) -> Result<String, AllocError> {
-    match fault {
-        RegionFault::Short(ring) => format!(in alloc; "region 1 ring {ring}"),
-        RegionFault::Open(ring) => format!(in alloc; "region 2 ring {ring}"),
-        RegionFault::TooMany => String::from_str(alloc, "region 3"),
-        RegionFault::TooWide => String::from_str(alloc, "region 4"),
-        RegionFault::TooFar => String::from_str(alloc, "region 5"),
-        RegionFault::NoPolygon => String::from_str(alloc, "region 6"),
-        RegionFault::NoMemory => String::from_str(alloc, "no memory"),
-    }
-}
-
-fn json_text(alloc: Global, fault: JsonFault) -> Result<String, AllocError> {
-    match fault {
-        JsonFault::NotJson(place) => format!(in alloc; "json 1 at {place}"),
-        JsonFault::TooDeep(place) => format!(in alloc; "json 2 at {place}"),
-        JsonFault::LongNumber(place) => format!(in alloc; "json 3 at {place}"),
-        JsonFault::NoMemory => String::from_str(alloc, "no memory"),
-    }
-}
-
-fn fault_text(alloc: Global, fault: OrderFault) -> Result<String, AllocError> {
-    let (word, member) = match fault {
-        OrderFault::Json(fault) => return json_text(alloc, fault),
-        OrderFault::Region(fault) => return region_text(alloc, fault),
-        OrderFault::Geometry => return String::from_str(alloc, "geometry"),
-        OrderFault::NoMemory => return String::from_str(alloc, "no memory"),
-        OrderFault::Missing(member) => ("missing", member),
-        OrderFault::Twice(member) => ("twice", member),
-        OrderFault::Kind(member) => ("kind", member),
-        OrderFault::Range(member) => ("range", member),
-    };
-    let member = member_word(member);
-    format!(in alloc; "{word} {member}")
-}
 
 fn answer(alloc: Global, text: &str) -> Result<String, AllocError> {
     match read_order(alloc, text.as_bytes()) {
@@ -161,7 +124,17 @@ fn further_members_may_stand(rt: HostRuntime) -> Result<(), Fail> {
         ("180", r#"180,"sun":"usno""#, "order"),
         ("180", r#"180,"sun":"moon""#, "range sun"),
         ("180", r#"180,"sun":1"#, "kind sun"),
+        ("180", r#"180,"sun":"meeus""#, "order"),
+        ("180", r#"180,"sun":"Meeus""#, "range sun"),
+        ("180", r#"180,"sun":"usno","sun":"usno""#, "twice sun"),
+        ("180", r#"180,"night":"half""#, "order"),
+        ("180", r#"180,"night":"seventh","sun":"meeus""#, "order"),
+        ("180", r#"180,"night":"angle""#, "order"),
         ("180", r#"180,"night":"third""#, "range night"),
+        ("180", r#"180,"night":7"#, "kind night"),
+        ("180", r#"180,"night":null"#, "kind night"),
+        ("180", r#"180,"night":7,"night":7"#, "twice night"),
+        ("180", r#"180,"night":7,"sun":7"#, "kind sun"),
         ("180", r#"180,"nights":1,"nights":2,"version":"7""#, "order"),
     ];
     with_changes(&rt, rt.alloc(), &rows)
@@ -284,7 +257,33 @@ fn a_line_has_a_version(rt: HostRuntime) -> Result<(), Fail> {
             r#""version":1,"height":"x","sun":1,"sun":2"#,
             "order",
         ),
-        (r#""version":1"#, r#""version":3"#, "range version"),
+        (r#""version":1"#, r#""version":0"#, "range version"),
+        (r#""version":1"#, r#""version":5"#, "range version"),
+        (
+            r#""version":1"#,
+            r#""version":3,"height":0,"late_isha":[]"#,
+            "missing sun",
+        ),
+        (
+            r#""version":1"#,
+            r#""version":3,"height":0,"late_isha":[],"sun":"usno","night":7"#,
+            "order",
+        ),
+        (
+            r#""version":1"#,
+            r#""version":4,"height":0,"late_isha":[],"sun":"usno""#,
+            "missing night",
+        ),
+        (
+            r#""version":1"#,
+            r#""version":4,"night":"angle","sun":"meeus","late_isha":[],"height":0"#,
+            "order",
+        ),
+        (
+            r#""version":1"#,
+            r#""version":4,"night":"third","sun":"meeus","late_isha":[],"height":0"#,
+            "range night",
+        ),
         (r#""version":1"#, r#""version":"1""#, "kind version"),
         (
             r#""version":1"#,

@@ -27,6 +27,28 @@ impl Write for Broken {
     }
 }
 
+/// A device that takes one byte a call.
+#[derive(Drop)]
+struct Slow {
+    written: Vec<u8>,
+}
+
+impl Write for Slow {
+    fn write(&mut self, piece: &[u8]) -> io::Result<usize> {
+        let Some(first) = piece.first() else {
+            return Ok(0);
+        };
+        match self.written.push(*first) {
+            Ok(()) => Ok(1),
+            Err(_) => Err(io::Error::from(ErrorKind::OutOfMemory)),
+        }
+    }
+
+    fn flush(&mut self) -> io::Result<()> {
+        Ok(())
+    }
+}
+
 #[test]
 fn std_readers_are_sources(rt: HostRuntime) {
     let mut buffer = [0u8; 2];
@@ -45,6 +67,16 @@ fn std_writers_are_sinks(rt: HostRuntime) {
     assert_eq!(rt; sink.write(b"abc"), Put::Took(3));
     assert_eq!(rt; written.as_slice(), b"abc".as_slice());
     assert_eq!(rt; StdSink::new(Broken).write(b"abc"), Put::Failed);
+}
+
+#[test]
+fn a_writer_of_one_byte_a_call_gets_all(rt: HostRuntime) {
+    let mut slow = Slow {
+        written: Vec::new(rt.alloc()),
+    };
+    let mut sink = StdSink::new(&mut slow);
+    assert_eq!(rt; write_all(&mut sink, b"abc"), Ok(()));
+    assert_eq!(rt; slow.written.as_slice(), b"abc".as_slice());
 }
 
 #[test]

@@ -1,0 +1,15 @@
+// Sets of districts: orders whose district is a collection of districts, read from JSON.
+// Contract: `read_set` answers the set that the bytes spell, or its first refusal, exactly.
+#![tactic(auto)]
+
+mod districts;
+mod features;
+mod laws;
+mod parts;
+mod read;
+mod set;
+
+pub use laws::{every_text_is_a_set_or_refused, set_readings_agree, sets_keep_the_rule};
+pub use parts::Parts;
+pub use read::read_set;
+pub use set::SetOrder;

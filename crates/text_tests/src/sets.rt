@@ -1,0 +1,145 @@
+// Sets of districts, right ones and wrong ones, with the first refusal of each.
+use crate::order_faults::fault_text;
+use set_reader::{
+    SetOrder, every_text_is_a_set_or_refused, read_set, set_readings_agree, sets_keep_the_rule,
+};
+use std::alloc::{AllocError, Global};
+use std::process::Abort;
+use std::test::Fail;
+
+const SET: &str =
+    r#"{"from":"2000-01-01","days":1,"method":"mwl","asr":"standard","zone":0,"district":{"type":"FeatureCollection","features":[{"type":"Feature","geometry":{"type":"Polygon","coordinates":[[[0,0],[1,0],[0,1],[0,0]]]}},{"type":"Feature","geometry":{"type":"MultiPolygon","coordinates":[[[[2,2],[2,2],[2,2],[2,2],[2,2]]],[[[0,0],[0,0],[0,0],[0,0]]]]}}]}}"#;
+
+const FEATURES: &str =
+    r#"[{"type":"Feature","geometry":{"type":"Polygon","coordinates":[[[0,0],[1,0],[0,1],[0,0]]]}},{"type":"Feature","geometry":{"type":"MultiPolygon","coordinates":[[[[2,2],[2,2],[2,2],[2,2],[2,2]]],[[[0,0],[0,0],[0,0],[0,0]]]]}}]"#;
+
+const FEATURE: &str =
+    r#"{"type":"Feature","geometry":{"type":"Polygon","coordinates":[[[1,1],[1,1],[1,1],[1,1]]]}},"#;
+
+fn answer(alloc: Global, text: &str) -> Result<String, AllocError> {
+    match read_set(alloc, text.as_bytes()) {
+        Ok(_) => String::from_str(alloc, "set"),
+        Err(fault) => fault_text(alloc, fault),
+    }
+}
+
+// The answers to a set in which a part is another one.
+fn with_changes(rt: &impl Abort, alloc: Global, rows: &[(&str, &str, &str)]) -> Result<(), Fail> {
+    for (old, new, want) in rows {
+        let text = SET.replace(alloc, *old, *new)?;
+        let got = answer(alloc, text.as_str())?;
+        assert_eq!(rt; got.as_str(), *want, "at {text}");
+    }
+    Ok(())
+}
+
+#[test]
+fn a_set_is_an_order_without_a_rule_for_nights(rt: HostRuntime) -> Result<(), Fail> {
+    let rows = [
+        ("", "", "set"),
+        ("mwl", "mecca", "range method"),
+        (r#""zone":0"#, r#""zone":0,"sun":"meeus""#, "set"),
+        (r#""zone":0"#, r#""zone":0,"night":"half""#, "range night"),
+        (r#""zone":0"#, r#""zone":0,"night":"third""#, "range night"),
+        (r#""zone":0"#, r#""zone":0,"night":7"#, "kind night"),
+        (
+            r#""zone":0"#,
+            r#""zone":0,"night":7,"night":"half""#,
+            "twice night",
+        ),
+        (
+            r#""zone":0"#,
+            r#""zone":0,"night":"half","sun":7"#,
+            "kind sun",
+        ),
+        (
+            r#""district":{"#,
+            r#""night":"half","rest":{"#,
+            "range night",
+        ),
+        (r#""district":{"#, r#""rest":{"#, "missing district"),
+        (
+            r#""district":{"#,
+            r#""district":7,"rest":{"#,
+            "kind district",
+        ),
+    ];
+    with_changes(&rt, rt.alloc(), &rows)
+}
+
+#[test]
+fn the_form_of_all_features_comes_before_their_districts(rt: HostRuntime) -> Result<(), Fail> {
+    let rows = [
+        ("FeatureCollection", "Feature", "geometry"),
+        (FEATURES, "[]", "geometry"),
+        (FEATURES, "{}", "geometry"),
+        ("[1,0],[0,1],", "", "region 1 ring 0"),
+        ("[0,1],[0,0]", "[0,1],[0,2]", "region 2 ring 0"),
+        (
+            "[[[0,0],[0,0],[0,0],[0,0]]]",
+            "[[[0,0],[0,0],[0,0]]]",
+            "region 1 ring 1",
+        ),
+        ("[[[0,0],[0,0],[0,0],[0,0]]]", "[]", "region 6"),
+        ("MultiPolygon", "Point", "geometry"),
+        (
+            r#"[1,0],[0,1],[0,0]]]}},{"type":"Feature""#,
+            r#"[0,1]]]}},{"type":"Polygon""#,
+            "geometry",
+        ),
+        (
+            "[2,2],[2,2],[2,2],[2,2],[2,2]",
+            "[4.194305,2],[4.194305,2],[4.194305,2],[4.194305,2]",
+            "region 4",
+        ),
+        (
+            "[[[2,2],[2,2],[2,2],[2,2],[2,2]]],[[[0,0],[0,0],[0,0],[0,0]]]",
+            "[[[4.194305,2],[4.194305,2],[4.194305,2],[4.194305,2]]]",
+            "region 4",
+        ),
+    ];
+    with_changes(&rt, rt.alloc(), &rows)
+}
+
+#[test]
+fn a_set_has_at_most_64_districts(rt: HostRuntime) -> Result<(), Fail> {
+    let alloc = rt.alloc();
+    for (more, want) in [(62, "set"), (63, "geometry")] {
+        let features = FEATURE.repeat(alloc, more)?;
+        let text = SET.replace(
+            alloc,
+            r#""features":["#,
+            format!(in alloc; "\"features\":[{}", features.as_str())?.as_str(),
+        )?;
+        let got = answer(alloc, text.as_str())?;
+        assert_eq!(rt; got.as_str(), want, "with {more} more");
+    }
+    Ok(())
+}
+
+#[test]
+fn a_set_has_the_districts_of_its_features(rt: HostRuntime) -> Result<(), Fail> {
+    let SetOrder { whole, mut parts } = match read_set(rt.alloc(), SET.as_bytes()) {
+        Ok(set) => set,
+        Err(_) => return Err(Fail::from("refused")),
+    };
+    assert_eq!(rt; whole.district.positions(), 13);
+    assert_eq!(rt; whole.district.polygon_count(), 3);
+    assert_eq!(rt; parts.count(), 2);
+    for want in [4, 9] {
+        match parts.take_first() {
+            Some(part) => assert_eq!(rt; part.positions(), want),
+            None => return Err(Fail::from("no part is left")),
+        }
+    }
+    assert!(rt; parts.take_first().is_none());
+    assert_eq!(rt; parts.count(), 0);
+    Ok(())
+}
+
+#[test]
+fn the_laws_are_called(_rt: HostRuntime) {
+    set_readings_agree();
+    every_text_is_a_set_or_refused();
+    sets_keep_the_rule();
+}
