@@ -233,7 +233,6 @@ is_order number = record {
   offset_each = offset_each number;
   low = omega arith;
   late_in_range = refl;
-  known_sun = refl;
   sound = ring_sound number;
 }
 

@@ -11,8 +11,9 @@ use Rattle.cell_split.specs.declared.verdict.Entry.TheVariants.{Minute, Never, O
 use Rattle.method_table.specs.declared.problem.Problem.{Problem}
 use Rattle.method_table.specs.Row.{row_of}
 use Rattle.region.specs.Rings.{Polygon}
-use Rattle.order_table.specs.Made.{day_of, searched}
-use Rattle.order_table.specs.Table.{DayTable, day_found, day_undecided, entries_in, is_undecided}
+use Rattle.sun_choice.specs.declared.choice.SunChoice.{SunChoice}
+use Rattle.order_table.specs.Made.{searched}
+use Rattle.order_table.specs.Table.{DayTable, day_undecided, entries_in, is_undecided}
 use Rattle.order_table.specs.declared.day.Day.{Day}
 use Rattle.order_table.proofs.TextLemmas.{entries_of_zip}
 use Rattle.order_reader.specs.Asked.{Asked}
@@ -25,19 +26,19 @@ use Rattle.demo_summary.specs.declared.tally.Tally.{Tally}
 use Rattle.demo_summary.specs.declared.tally.Variant.TheVariants as variants
 
 -- the entries of the days that were searched
-entries_are : (polygons : List Polygon) (root : Cell) (days : List Day) → map entries_in (map (searched polygons root) days) ≡ map (entries_on polygons root) days
+entries_are : (sun : SunChoice) (polygons : List Polygon) (root : Cell) (days : List Day) → map entries_in (map (searched sun polygons root) days) ≡ map (entries_on sun polygons root) days
 unfolding searched entries_of
-entries_are polygons root [] = refl
-entries_are polygons root (day ∷ rest) =
-    rw (entries_of_zip (map row_of day.problems) (entries_on polygons root day) (length-map day.problems row_of ∙ day.seven)) (ap (λ es. entries_on polygons root day ∷ es) (entries_are polygons root rest))
+entries_are sun polygons root [] = refl
+entries_are sun polygons root (day ∷ rest) =
+    rw (entries_of_zip (map row_of day.problems) (entries_on sun polygons root day) (length-map day.problems row_of ∙ day.seven)) (ap (λ es. entries_on sun polygons root day ∷ es) (entries_are sun polygons root rest))
 
 -- the sum of the days with their entries
-sums_are : (polygons : List Polygon) (root : Cell) (days : List Day) (z : ℤ) →
-    fold (λ sum x. sum +ℤ total minutes_of (day_found (day_of x.0) x.1).found) z (zip days (map (entries_on polygons root) days))
-    ≡ fold (λ sum day. sum +ℤ total minutes_of day.found) z (map (searched polygons root) days)
+sums_are : (sun : SunChoice) (polygons : List Polygon) (root : Cell) (days : List Day) (z : ℤ) →
+    fold (λ sum x. sum +ℤ total minutes_of (zip (map row_of x.0.problems) x.1)) z (zip days (map (entries_on sun polygons root) days))
+    ≡ fold (λ sum day. sum +ℤ total minutes_of day.found) z (map (searched sun polygons root) days)
 unfolding searched entries_of
-sums_are polygons root [] z = refl
-sums_are polygons root (day ∷ rest) z = sums_are polygons root rest (z +ℤ total minutes_of (searched polygons root day).found)
+sums_are sun polygons root [] z = refl
+sums_are sun polygons root (day ∷ rest) z = sums_are sun polygons root rest (z +ℤ total minutes_of (searched sun polygons root day).found)
 
 same_tally : (t u : Tally) → t.minutes ≡ u.minutes → t.whole ≡ u.whole → t.never ≡ u.never → t.undecided ≡ u.undecided → t.sum ≡ u.sum → t ≡ u
 same_tally t u minutes whole never undecided sum i = record {
@@ -48,14 +49,14 @@ same_tally t u minutes whole never undecided sum i = record {
   sum = sum i;
 }
 
-pub tally_is : (polygons : List Polygon) (root : Cell) (days : List Day) (entries : List (List Entry)) (t : Tally) →
-    entries ≡ map (entries_on polygons root) days → t.minutes ≡ counted variants.Minute entries → t.whole ≡ counted variants.Whole entries →
+pub tally_is : (sun : SunChoice) (polygons : List Polygon) (root : Cell) (days : List Day) (entries : List (List Entry)) (t : Tally) →
+    entries ≡ map (entries_on sun polygons root) days → t.minutes ≡ counted variants.Minute entries → t.whole ≡ counted variants.Whole entries →
     t.never ≡ counted variants.Never entries → t.undecided ≡ counted variants.Open entries →
-    t.sum ≡ total (λ x. total minutes_of (day_found (day_of x.0) x.1).found) (zip days entries) → t ≡ tally_of (map (searched polygons root) days)
+    t.sum ≡ total (λ x. total minutes_of (zip (map row_of x.0.problems) x.1)) (zip days entries) → t ≡ tally_of (map (searched sun polygons root) days)
 unfolding tally_of
-tally_is polygons root days entries t are minutes whole never undecided sum =
-    let same : entries ≡ map entries_in (map (searched polygons root) days) = are ∙ sym (entries_are polygons root days) in
-    let total_is = sum ∙ ap (λ es. total (λ x. total minutes_of (day_found (day_of x.0) x.1).found) (zip days es)) are ∙ sums_are polygons root days (pos 0) in
+tally_is sun polygons root days entries t are minutes whole never undecided sum =
+    let same : entries ≡ map entries_in (map (searched sun polygons root) days) = are ∙ sym (entries_are sun polygons root days) in
+    let total_is = sum ∙ ap (λ es. total (λ x. total minutes_of (zip (map row_of x.0.problems) x.1)) (zip days es)) are ∙ sums_are sun polygons root days (pos 0) in
     same_tally t _ (minutes ∙ ap (counted variants.Minute) same) (whole ∙ ap (counted variants.Whole) same) (never ∙ ap (counted variants.Never) same)
     (undecided ∙ ap (counted variants.Open) same) total_is
 
@@ -105,7 +106,7 @@ minutes_all ps es i past =
 
 -- of the days
 abbrev pub of_day : Day × List Entry → ℤ
-of_day x = total minutes_of (day_found (day_of x.0) x.1).found
+of_day x = total minutes_of (zip (map row_of x.0.problems) x.1)
 
 pub days_more : (days : List Day) (entries : List (List Entry)) (i : ℕ) (day : Day) (d : List Entry) (m : ℤ) → i < length days → i < length entries → day ≡ get_or days i day →
     m ≡ total minutes_of (zip (map row_of day.problems) (get_or entries i d)) →

@@ -1,5 +1,5 @@
 -- The order that a number stands for: a star of 65 positions around a centre, and 30 days.
-use Rattle.std.specs.Prelude.{ℕ, zero, suc, ◌+◌, ◌*◌, ◌/◌, ◌%◌, ◌==◌, if◌then◌else◌, ℤ, pos, ◌+ℤ◌, ◌-ℤ◌, ◌*ℤ◌, List, [], ◌∷◌, ◌++◌, replicate}
+use Rattle.std.specs.Prelude.{ℕ, zero, suc, ◌+◌, ◌*◌, ◌/◌, ◌%◌, ◌==◌, if◌then◌else◌, ℤ, pos, ◌+ℤ◌, ◌-ℤ◌, ◌*ℤ◌, List, [], ◌∷◌, ◌++◌, None, replicate}
 use Rattle.std.specs.Int.{int_div_euclid}
 use Rattle.method_table.specs.declared.method.Asr.{Asr}
 use Rattle.method_table.specs.declared.method.Asr.TheVariants.{Hanafi, Standard}
@@ -7,7 +7,7 @@ use Rattle.method_table.specs.declared.method.Method.{Method}
 use Rattle.method_table.specs.declared.method.Method.TheVariants.{Egypt, Isna, Jafari, Karachi, Makkah, Mwl, Tehran}
 use Rattle.order_reader.specs.Asked.{Asked}
 use Rattle.region.specs.Rings.{Position, Ring}
-use Rattle.year_table.specs.declared.head.SunChoice.TheVariants.{Usno}
+use Rattle.sun_choice.specs.declared.choice.SunChoice.TheVariants.{Usno}
 use Rattle.year_table.specs.declared.zone.Zone.TheVariants.{Fixed}
 use Rattle.demo_summary.specs.Numbers.{drawn}
 
@@ -91,5 +91,6 @@ demo_asked number = record {
   height = 0;
   late = [];
   sun = Usno;
+  night = None;
   district = (demo_ring number ∷ []) ∷ [];
 }

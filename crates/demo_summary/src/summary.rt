@@ -24,7 +24,7 @@ use worker_table::search_days;
 
 /// The tally of these days with their entries.
 fn tally_of(ready: &Ready, entries: &[[Entry; 7]]) -> Tally
-    requires entries { entries.now ≡ map (entries_on ready.now.sky.district ready.now.sky.root) ready.now.days.items }
+    requires entries { entries.now ≡ map (entries_on ready.now.sky.sun ready.now.sky.district ready.now.sky.root) ready.now.days.items }
     requires printable { All (All IsPrintable) entries.now }
     requires few { length ready.now.days.items ≤ 366 }
     ensures { result ≡ tally_of (found_in ready.now) }

@@ -1,9 +1,7 @@
 // How many entries of a table are of each variant, and the sum of their minutes.
 ghost use Rattle.std.specs.Prelude.{◌≡◌, ◌≤◌, ◌*◌, ◌≤ℤ◌, ◌*ℤ◌, neg_ℤ, pos, All, count_by, length, map, zip};
 ghost use Rattle.method_table.specs.Row.{row_of};
-ghost use Rattle.order_table.specs.Made.{day_of};
 ghost use Rattle.order_table.specs.Printing.{IsPrintable};
-ghost use Rattle.order_table.specs.Table.{day_found};
 ghost use Rattle.demo_summary.specs.Summary.{counted, is_of, minutes_of, total};
 
 use cell_split::Entry;
@@ -101,7 +99,7 @@ pub(crate) fn sum_of(days: &[Day], entries: &[[Entry; 7]]) -> i32
     requires long { length entries.now ≡ length days.now }
     requires printable { All (All IsPrintable) entries.now }
     requires few { length days.now ≤ 366 }
-    ensures { result ≡ total (λ x. total minutes_of (day_found (day_of x.0) x.1).found) (zip days.now entries.now) }
+    ensures { result ≡ total (λ x. total minutes_of (zip (map row_of x.0.problems) x.1)) (zip days.now entries.now) }
 {
     let mut sum = 0;
     for (i, day) in days.iter().enumerate() {

@@ -1,6 +1,6 @@
 -- The days of an order.
-use Rattle.std.proofs.Common.{◌≡◌, ℕ, suc, ◌+◌, ◌<◌, ◌≤◌, List, [], ◌∷◌, ◌++◌, length, map, drop, get_or, refl, sym, ap, ◌∙◌, append_assoc, arith}
-use Rattle.std.specs.Prelude.{Some, slice_get, ℤ, pos, negsuc, neg_ℤ, ◌+ℤ◌, ◌≤ℤ◌, None, fold}
+use Rattle.std.proofs.Common.{◌≡◌, ℕ, suc, ◌+◌, ◌<◌, ◌≤◌, List, [], ◌∷◌, ◌++◌, length, map, drop, get_or, refl, sym, ap, ◌∙◌, append_assoc, arith, to_z, of_z, w32, Bool, true, false, inl, inr}
+use Rattle.std.specs.Prelude.{Option, Some, slice_get, ℤ, pos, negsuc, neg_ℤ, ◌+ℤ◌, ◌≤ℤ◌, ◌⊎◌, if◌then◌else◌, None, fold}
 use Rattle.std.specs.Int.{int_max, int_rem_euclid}
 use Rattle.std.proofs.lemmas.Int.{ints, clamps}
 use Rattle.std.proofs.lemmas.List.{drop_more, length-map, map-append}
@@ -16,12 +16,14 @@ use Rattle.cell_split.specs.Cells.{IsRoot}
 use Rattle.cell_judge.specs.DayLaws.{IsDay}
 use Rattle.cell_judge.proofs.DayLaws.{days_are_in_limits}
 use Rattle.cell_judge.specs.Limits.{AreInLimits}
+use Rattle.night_portion.specs.Sun.{night_rows}
+use Rattle.night_rule.specs.declared.rule.NightRule.{NightRule}
 use Rattle.method_table.specs.declared.problem.Problem.{Problem}
 use Rattle.cell_judge.proofs.ExtentLemmas.{IsBetween, west_near, south_near, xs_near}
 use Rattle.order_reader.specs.Asked.{Asked}
 use Rattle.order_reader.specs.Late.{interval_on}
 use Rattle.order_reader.specs.Offsets.{IsOffset, first_day, last_day}
-use Rattle.order_table.specs.Days.{days_from, days_of, rows_on}
+use Rattle.order_table.specs.Days.{NightRows, days_from, days_of, night_on, noon_on, rows_on}
 use Rattle.order_table.specs.Made.{IsDayAt, day_of}
 use Rattle.order_table.specs.declared.day.Day.{Day}
 use Rattle.order_table.specs.Trees.{root_over}
@@ -66,7 +68,7 @@ noon_between (pos a) = (omega (arith, ints), omega (arith, ints))
 noon_between (negsuc a) = (omega (arith, ints), omega (arith, ints))
 
 pub is_day : (o : Asked) (day offset : ℤ) → first_day ≤ℤ day → day ≤ℤ last_day → IsOffset offset → o.height ≤ 9000 →
-    IsDay day offset (noon_of (least (longitudes o.district)) (greatest (longitudes o.district)) offset) o.height
+    IsDay day offset (noon_on o offset) o.height
 is_day o day offset early late range low =
     let noon = noon_between _ in
     record {
@@ -79,19 +81,39 @@ is_day o day offset early late range low =
       not_high = low;
     }
 
+-- the reference noon, from what it was made of
+pub noon_is : (o : Asked) (offset noon west east : ℤ) → noon ≡ noon_of west east offset → west ≡ least (longitudes o.district) →
+    east ≡ greatest (longitudes o.district) → noon ≡ noon_on o offset
+noon_is o offset noon west east is_noon is_west is_east = is_noon ∙ rw (is_west, is_east) refl
+
 -- the rows of a day, from what its problems were made of
-pub rows_are : (o : Asked) (day offset noon interval west east : ℤ) (found : List Row) → found ≡ rows o.method o.asr day offset noon o.height interval →
-    noon ≡ noon_of west east offset → west ≡ least (longitudes o.district) → east ≡ greatest (longitudes o.district) →
+pub rows_are : (o : Asked) (day offset noon interval : ℤ) (found : List Row) → found ≡ rows o.method o.asr day offset noon o.height interval →
+    noon ≡ noon_on o offset →
     interval ≡ interval_on o.late day → found ≡ rows_on o day offset
 unfolding rows_on
-rows_are o day offset noon interval west east found is_found is_noon is_west is_east is_interval =
-    is_found ∙ rw (is_noon, is_west, is_east, is_interval) refl
+rows_are o day offset noon interval found is_found is_noon is_interval = is_found ∙ rw (is_noon, is_interval) refl
+
+-- the interval has one of two values
+pub interval_known : (late : Bool) (interval : ℤ) → interval ≡ (if late then pos 120 else pos 90) →
+    (to_z w32 (of_z w32 interval) ≡ pos 90) ⊎ (to_z w32 (of_z w32 interval) ≡ pos 120)
+interval_known true interval is = inr (rw is refl)
+interval_known false interval is = inl (rw is refl)
+
+-- the night of a day, from what its problems were made of
+pub night_made : (o : Asked) (day offset noon : ℤ) (rule : NightRule) (found : List Row) → found ≡ night_rows day offset noon o.height → noon ≡ noon_on o offset →
+    o.night ≡ Some rule → Some (record { rule = rule; method = o.method; rows = found }) ≡ night_on o day offset
+unfolding night_on
+night_made o day offset noon rule found is_found is_noon is_rule = rw (is_rule, is_found, is_noon) refl
+
+pub no_night : (o : Asked) (day offset : ℤ) → o.night ≡ None → None ≡ night_on o day offset
+unfolding night_on
+no_night o day offset is = rw is refl
 
 pub day_limits : (o : Asked) (day offset : ℤ) (problems : List Problem) → first_day ≤ℤ day → day ≤ℤ last_day → IsOffset offset → o.height ≤ 9000 →
     map row_of problems ≡ rows_on o day offset → AreInLimits problems
 unfolding rows_on
 day_limits o day offset problems early late range low same =
-    days_are_in_limits o.method o.asr day offset (noon_of (least (longitudes o.district)) (greatest (longitudes o.district)) offset) o.height
+    days_are_in_limits o.method o.asr day offset (noon_on o offset) o.height
     (interval_on o.late day) (is_day o day offset early late range low) problems same
 
 -- ---- the days as they are made
@@ -109,11 +131,12 @@ days_more o found i day within is so_far =
     ap (λ ds. ds ++ tail) (map-append day_of found (day ∷ [])) ∙ append_assoc (map day_of found) (day_of day ∷ []) tail
     ∙ ap (λ ds. map day_of found ++ ds) (sym here) ∙ so_far
 
-pub day_is_at : (o : Asked) (i : ℕ) (number offset : ℤ) (found : List Row) → number ≡ o.from_day +ℤ pos i →
-    slice_get o.offsets i ≡ Some offset → found ≡ rows_on o number offset → IsDayAt o i (record { number = number; rows = found })
-day_is_at o i number offset found is_number is_offset is_found =
+pub day_is_at : (o : Asked) (i : ℕ) (number offset : ℤ) (found : List Row) (night : Option NightRows) → number ≡ o.from_day +ℤ pos i →
+    slice_get o.offsets i ≡ Some offset → found ≡ rows_on o number offset → night ≡ night_on o number offset →
+    IsDayAt o i (record { number = number; rows = found; night = night })
+day_is_at o i number offset found night is_number is_offset is_found is_night =
     let same : get_or o.offsets i (pos 0) ≡ offset = get_or_from_slice_get o.offsets i offset (pos 0) is_offset in
-    rw (is_found, is_number, same) refl
+    rw (is_found, is_night, is_number, same) refl
 
 days_count : (o : Asked) (day : ℤ) (offsets : List ℤ) → length (days_from o day offsets) ≡ length offsets
 days_count o day [] = refl

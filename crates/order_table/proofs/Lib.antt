@@ -1,4 +1,5 @@
 pub mod TextLemmas
+pub mod NightLemmas
 pub mod DayLemmas
 pub mod RightLemmas
 pub mod TableLemmas

@@ -1,6 +1,6 @@
 -- The text of a day in pieces, and how many of its entries are undecided.
 use Rattle.std.proofs.Common.{◌≡◌, ℕ, ◌+◌, ◌≤◌, ◌<◌, List, [], ◌∷◌, ◌++◌, length, take, get_or, map, refl, sym, ap, ◌∙◌, append_assoc, append-nil, arith, codes}
-use Rattle.std.specs.Prelude.{ℤ, count_by, flat_map, zip}
+use Rattle.std.specs.Prelude.{ℤ, None, Option, count_by, flat_map, zip}
 use Rattle.std.proofs.lemmas.List.{take_all, take_more, get_or-map, length-map}
 use Rattle.std.proofs.lemmas.List.Concat.{flat_map-append}
 use Rattle.std.proofs.lemmas.Slice.Zip.{get_or-zip, length-zip}
@@ -11,7 +11,7 @@ use Rattle.year_table.specs.Entries.{entry_text}
 use Rattle.year_table.specs.Lines.{cell_text, day_line, open_line}
 use Rattle.year_table.specs.Dates.{date_text}
 use Rattle.order_table.specs.Days.{DayRows}
-use Rattle.order_table.specs.Table.{day_found, day_text, day_undecided, is_undecided, line_text, opens_text}
+use Rattle.order_table.specs.Table.{day_found, day_text, day_undecided, is_undecided, line_text, night_found, night_text, opens_text}
 
 cells_by_rows : (ps : List Problem) (es : List Entry) →
     flat_map cell_text (zip ps es) ≡ flat_map (λ x. codes " " ++ entry_text x.0 x.1) (zip (map row_of ps) es)
@@ -19,9 +19,12 @@ cells_by_rows [] es = refl
 cells_by_rows (p ∷ ps) [] = refl
 cells_by_rows (p ∷ ps) (e ∷ es) = ap (λ rest. (codes " " ++ entry_text (row_of p) e) ++ rest) (cells_by_rows ps es)
 
+-- the line of these rows with their entries
+abbrev row_line : ℤ → List Row → List Entry → List ℕ
+row_line day rows entries = line_text (record { number = day; found = zip rows entries; night = None })
+
 -- the same line by problems and by their rows
-line_by_rows : (day : ℤ) (ps : List Problem) (es : List Entry) →
-    day_line day ps es ≡ line_text (day_found (record { number = day; rows = map row_of ps }) es)
+line_by_rows : (day : ℤ) (ps : List Problem) (es : List Entry) → day_line day ps es ≡ row_line day (map row_of ps) es
 line_by_rows day ps es = ap (λ cells. date_text day ++ cells ++ codes "\n") (cells_by_rows ps es)
 
 -- the lines of one entry more
@@ -49,13 +52,17 @@ opens_all ps es i a l end so_far =
     let all : length (zip (map row_of ps) es) ≤ i = omega (arith, end, length-zip (map row_of ps) es, length-map ps row_of) in
     so_far ∙ ap (λ xs. a ++ opens_text xs) (take_all i (zip (map row_of ps) es) all)
 
--- the line of a day, written of its problems, and those of its open entries
-pub text_is : (day : DayRows) (ps : List Problem) (es : List Entry) (line text : List ℕ) → day.rows ≡ map row_of ps →
-    line ≡ day_line day.number ps es → text ≡ line ++ opens_text (zip (map row_of ps) es) → text ≡ day_text (day_found day es)
+-- the line of a day, written of its problems, those of its open entries, and that of its night
+pub text_is : (day : DayRows) (ps : List Problem) (es : List Entry) (ns : Option (List Entry)) (line opened text : List ℕ) → day.rows ≡ map row_of ps →
+    line ≡ day_line day.number ps es → opened ≡ line ++ opens_text (zip (map row_of ps) es) →
+    text ≡ opened ++ night_text (zip (map row_of ps) es) (night_found day.night ns) → text ≡ day_text (day_found day es ns)
 unfolding day_text
-text_is day ps es line text are_rows is_line is_text =
-    is_text ∙ ap (λ l. l ++ opens_text (zip (map row_of ps) es)) (is_line ∙ line_by_rows day.number ps es)
-    ∙ ap (λ rs. line_text (day_found (record { number = day.number; rows = rs }) es) ++ opens_text (zip rs es)) (sym are_rows)
+text_is day ps es ns line opened text are_rows is_line is_opened is_text =
+    let found = zip (map row_of ps) es in
+    let night = night_found day.night ns in
+    is_text ∙ ap (λ t. t ++ night_text found night) (is_opened ∙ ap (λ l. l ++ opens_text found) (is_line ∙ line_by_rows day.number ps es))
+    ∙ append_assoc (row_line day.number (map row_of ps) es) (opens_text found) (night_text found night)
+    ∙ ap (λ rs. row_line day.number rs es ++ (opens_text (zip rs es) ++ night_text (zip rs es) night)) (sym are_rows)
 
 -- ---- a day's rows and entries, each with the other
 
@@ -70,7 +77,7 @@ entries_of_zip [] (e ∷ es) same = absurd (omega (arith, same))
 entries_of_zip (r ∷ rs) [] same = absurd (omega (arith, same))
 entries_of_zip (r ∷ rs) (e ∷ es) same = ap (λ xs. e ∷ xs) (entries_of_zip rs es (omega (arith, same)))
 
-pub undecided_is : (day : DayRows) (es : List Entry) (count : ℕ) → length day.rows ≡ length es → count ≡ count_by is_undecided es →
-    count ≡ day_undecided (day_found day es)
+pub undecided_is : (day : DayRows) (es : List Entry) (ns : Option (List Entry)) (count : ℕ) → length day.rows ≡ length es → count ≡ count_by is_undecided es →
+    count ≡ day_undecided (day_found day es ns)
 unfolding day_undecided
-undecided_is day es count same is_count = is_count ∙ ap (count_by is_undecided) (sym (entries_of_zip day.rows es same))
+undecided_is day es ns count same is_count = is_count ∙ ap (count_by is_undecided) (sym (entries_of_zip day.rows es same))

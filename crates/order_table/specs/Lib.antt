@@ -1,6 +1,5 @@
 pub mod Days
 pub mod Table
-pub mod Suns
 pub mod Trees
 pub mod RightTable
 pub mod Laws

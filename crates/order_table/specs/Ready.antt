@@ -10,12 +10,13 @@ use Rattle.order_table.specs.declared.ready.Ready.{Ready}
 pub record IsReady (o : Asked) (r : Ready) : Type 0 where
   pub head : r.head.items ≡ head_of o
   pub days : map day_of r.days.items ≡ days_of o
+  pub sun : r.sky.sun ≡ o.sun
   pub district : r.sky.district ≡ o.district
   pub root : r.sky.root ≡ root_over o.district
 
 -- the days with the entries that a search finds
 abbrev pub found_in : Ready → List DayTable
-found_in r = map (searched r.sky.district r.sky.root) r.days.items
+found_in r = map (searched r.sky.sun r.sky.district r.sky.root) r.days.items
 
 -- the head and the days
 abbrev pub front_of : Ready → List ℕ

@@ -1,5 +1,5 @@
 // The table of an order, searched and written day by day.
-ghost use Rattle.std.specs.Prelude.{◌≡◌, ◌<◌, ◌≤◌, ◌++◌, length, map, IfOk, All};
+ghost use Rattle.std.specs.Prelude.{◌≡◌, ◌<◌, ◌≤◌, ◌++◌, length, map, IfOk, IfSome, All};
 ghost use Rattle.method_table.specs.Row.{row_of};
 ghost use Rattle.order_reader.specs.Asked.{asked_of};
 ghost use Rattle.order_table.specs.Made.{day_of, searched};
@@ -7,66 +7,39 @@ ghost use Rattle.order_table.specs.Printing.{IsPrintable};
 ghost use Rattle.order_table.specs.Ready.{found_in, front_of};
 ghost use Rattle.order_table.specs.RightTable.{IsRightTable};
 ghost use Rattle.order_table.specs.Table.{day_found, day_text, day_undecided, days_text, days_undecided};
-ghost use Rattle.order_table.specs.Trees.{entries_of, entry_at, judge_of, table_of, undecided};
+ghost use Rattle.order_table.specs.Trees.{entries_of, table_of, undecided};
 ghost use Rattle.outcome.specs.Writing.{Writes};
 ghost use Rattle.year_table.specs.Lines.{end_line};
-ghost use Rattle.year_table.specs.declared.head.SunChoice.TheVariants.{Usno};
 
 use crate::day::Day;
 use crate::ready::{Ready, prepare};
+use crate::search::{day_entries, night_entries};
 use crate::text::{day_text, open_count};
 use cell_judge::Sky;
 use cell_split::Entry;
-use covering::entry_at;
 use order_reader::Order;
 use outcome::Stop;
 use source_sink::{Sink, write_all};
 use std::alloc::Global;
 use year_table::end_line;
 
-/// The entry of a column on a day, by a search for the sky that is turned to it.
-fn entry_in(sky: &Sky, day: &Day, column: u32) -> Entry
-    requires day { sky.now.problems ≡ day.now.problems }
-    requires column { column < 7 }
-    ensures value { result ≡ entry_at (judge_of Usno sky.now.district sky.now.root (map row_of day.now.problems)) column }
-    ensures printable { IsPrintable result }
-{
-    entry_at(sky, column)
-}
-
-/// The entries of a day, each by a search of its tree; the sky is turned to that day. It takes no memory.
-pub fn day_entries(sky: &mut Sky, day: &Day) -> [Entry; 7]
-    ensures entries { result ≡ entries_of Usno sky.old.district sky.old.root (map row_of day.now.problems) }
-    ensures printable { All IsPrintable result }
-    ensures district { sky.new.district ≡ sky.old.district }
-    ensures root { sky.new.root ≡ sky.old.root }
-{
-    sky.turn_to(day.problems);
-    [
-        entry_in(sky, day, 0),
-        entry_in(sky, day, 1),
-        entry_in(sky, day, 2),
-        entry_in(sky, day, 3),
-        entry_in(sky, day, 4),
-        entry_in(sky, day, 5),
-        entry_in(sky, day, 6),
-    ]
-}
-
-/// Writes the lines of a day with these entries; answers how many of them are undecided.
+/// Writes the lines of a day with these entries of its columns and of its night; answers how many of its columns' are
+/// undecided.
 pub fn write_day<K: Sink>(
     alloc: Global,
     day: &Day,
     entries: &[Entry; 7],
+    night_entries: &Option<[Entry; 2]>,
     out: &mut K,
 ) -> Result<u32, Stop>
-    requires { All IsPrintable entries.now }
-    ensures writes { Writes (day_text (day_found (day_of day.now) entries.now)) result
+    requires printable { All IsPrintable entries.now }
+    requires night_printable { IfSome night_entries.now (All IsPrintable) }
+    ensures writes { Writes (day_text (day_found (day_of day.now) entries.now night_entries.now)) result
         (K.faults out.old) (K.faults out.new) (K.held out.old) (K.held out.new) }
-    ensures count { IfOk result (λ count. count ≡ day_undecided (day_found (day_of day.now) entries.now)) }
+    ensures count { IfOk result (λ count. count ≡ day_undecided (day_found (day_of day.now) entries.now night_entries.now)) }
     ensures few { IfOk result (λ count. count ≤ 7) }
 {
-    let Ok(text) = day_text(alloc, day, entries) else {
+    let Ok(text) = day_text(alloc, day, entries, night_entries) else {
         return Err(Stop::NoMemory);
     };
     match write_all(out, &text) {
@@ -75,18 +48,42 @@ pub fn write_day<K: Sink>(
     }
 }
 
-/// Searches a day and writes its lines; answers how many of its entries are undecided.
+/// Writes the lines of a day whose columns' entries are found: its night is searched first, where it has one. Answers how many
+/// of the columns' entries are undecided.
 #[tactic(auto, unfolding(crate::specs::Made::searched))]
-fn search_day<K: Sink>(alloc: Global, sky: &mut Sky, day: &Day, out: &mut K) -> Result<u32, Stop>
-    ensures writes { Writes (day_text (searched sky.old.district sky.old.root day.now)) result
+pub fn write_searched<K: Sink>(
+    alloc: Global,
+    sky: &mut Sky,
+    day: &Day,
+    entries: &[Entry; 7],
+    out: &mut K,
+) -> Result<u32, Stop>
+    requires found { entries.now ≡ entries_of sky.old.sun sky.old.district sky.old.root (map row_of day.now.problems) }
+    requires printable { All IsPrintable entries.now }
+    ensures writes { Writes (day_text (searched sky.old.sun sky.old.district sky.old.root day.now)) result
         (K.faults out.old) (K.faults out.new) (K.held out.old) (K.held out.new) }
-    ensures count { IfOk result (λ count. count ≡ day_undecided (searched sky.old.district sky.old.root day.now)) }
+    ensures count { IfOk result (λ count. count ≡ day_undecided (searched sky.old.sun sky.old.district sky.old.root day.now)) }
     ensures few { IfOk result (λ count. count ≤ 7) }
+    ensures sun { sky.new.sun ≡ sky.old.sun }
+    ensures district { sky.new.district ≡ sky.old.district }
+    ensures root { sky.new.root ≡ sky.old.root }
+{
+    let night_entries = night_entries(sky, day);
+    write_day(alloc, day, entries, &night_entries, out)
+}
+
+/// Searches a day and writes its lines; answers how many of its columns' entries are undecided.
+fn search_day<K: Sink>(alloc: Global, sky: &mut Sky, day: &Day, out: &mut K) -> Result<u32, Stop>
+    ensures writes { Writes (day_text (searched sky.old.sun sky.old.district sky.old.root day.now)) result
+        (K.faults out.old) (K.faults out.new) (K.held out.old) (K.held out.new) }
+    ensures count { IfOk result (λ count. count ≡ day_undecided (searched sky.old.sun sky.old.district sky.old.root day.now)) }
+    ensures few { IfOk result (λ count. count ≤ 7) }
+    ensures sun { sky.new.sun ≡ sky.old.sun }
     ensures district { sky.new.district ≡ sky.old.district }
     ensures root { sky.new.root ≡ sky.old.root }
 {
     let entries = day_entries(sky, day);
-    write_day(alloc, day, &entries, out)
+    write_searched(alloc, sky, day, &entries, out)
 }
 
 /// Searches the days and writes their lines; answers how many of their entries are undecided.
@@ -97,9 +94,9 @@ fn search_days<K: Sink>(
     out: &mut K,
 ) -> Result<u32, Stop>
     requires few { length days.now ≤ 366 }
-    ensures writes { Writes (days_text (map (searched sky.old.district sky.old.root) days.now)) result
+    ensures writes { Writes (days_text (map (searched sky.old.sun sky.old.district sky.old.root) days.now)) result
         (K.faults out.old) (K.faults out.new) (K.held out.old) (K.held out.new) }
-    ensures count { IfOk result (λ count. count ≡ days_undecided (map (searched sky.old.district sky.old.root) days.now)) }
+    ensures count { IfOk result (λ count. count ≡ days_undecided (map (searched sky.old.sun sky.old.district sky.old.root) days.now)) }
 {
     let mut undecided = 0;
     for day in days {

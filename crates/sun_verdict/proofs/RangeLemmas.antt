@@ -1,10 +1,13 @@
 -- What words ask of the sun is in its range.
 use Rattle.std.proofs.Common.{◌≡◌, ℕ, ◌≤◌, Bool, true, false, cond, List, [], ◌∷◌, Option, Some, None, codes, refl, arith}
-use Rattle.std.specs.Prelude.{ℤ, pos, neg_ℤ, ◌≤ℤ◌, IfSome, ◌==◌, bytes_eq, nat_le, option_map, slice_index}
+use Rattle.std.specs.Prelude.{ℤ, pos, ◌≤ℤ◌, IfSome, ◌==◌, bytes_eq, nat_le, option_map, slice_index}
 use Rattle.std.proofs.lemmas.Bool.{leb-true}
 use Rattle.std.proofs.lemmas.Int.{ints}
+use Rattle.sun_choice.specs.declared.choice.SunChoice.{SunChoice}
+use Rattle.sun_choice.specs.declared.choice.SunChoice.TheVariants.{Usno, Meeus}
+use Rattle.sun_choice.specs.Choice.{sun_word}
 use Rattle.sun_verdict.specs.Decimals.{at_most, digits_in, is_negative, millionths_in, with_sign, without_sign}
-use Rattle.sun_verdict.specs.Request.{IsAsked, IsInRange, IsWithin, angle_in, coordinate_in, minute_in, question_in, request_in, request_of}
+use Rattle.sun_verdict.specs.Request.{IsAsked, IsInRange, IsWithin, angle_in, coordinate_in, asked_of, minute_in, question_in, request_in, request_of}
 use Rattle.sun_verdict.specs.declared.request.Question.{Question}
 use Rattle.sun_verdict.specs.declared.request.Question.TheVariants.{Altitude, Meridian, Shadow}
 
@@ -53,13 +56,18 @@ question_asked word =
     (altitude_asked angle (held (λ (a : ℤ). (pos 0 ≤ℤ a) × (a ≤ℤ pos 30_000_000)) pos 30_000_000 (millionths_in word)
     (λ n few. (omega (arith, ints), omega (arith, ints, few)))))))
 
-request_within : (minute lon lat : Option ℤ) (question : Option Question) → IfSome minute (IsWithin 53_200_000) → IfSome lon (IsWithin 360_000_000) →
-    IfSome lat (IsWithin 65_000_000) → IfSome question IsAsked → IfSome (request_of minute lon lat question) IsInRange
-request_within None lon lat question m x y q = tt
-request_within (Some minute) None lat question m x y q = tt
-request_within (Some minute) (Some lon) None question m x y q = tt
-request_within (Some minute) (Some lon) (Some lat) None m x y q = tt
-request_within (Some minute) (Some lon) (Some lat) (Some question) m x y q = record { minute = m; lon = x; lat = y; question = q }
+request_within : (sun : SunChoice) (minute lon lat : Option ℤ) (question : Option Question) → IfSome minute (IsWithin 53_200_000) → IfSome lon (IsWithin 360_000_000) →
+    IfSome lat (IsWithin 65_000_000) → IfSome question IsAsked → IfSome (request_of sun minute lon lat question) IsInRange
+request_within sun None lon lat question m x y q = tt
+request_within sun (Some minute) None lat question m x y q = tt
+request_within sun (Some minute) (Some lon) None question m x y q = tt
+request_within sun (Some minute) (Some lon) (Some lat) None m x y q = tt
+request_within sun (Some minute) (Some lon) (Some lat) (Some question) m x y q = record { minute = m; lon = x; lat = y; question = q }
+
+asked_in_range : (sun : SunChoice) (a b c d : List ℕ) → IfSome (asked_of sun a b c d) IsInRange
+unfolding asked_of
+asked_in_range sun a b c d =
+    request_within sun (minute_in a) (coordinate_in 360_000_000 b) (coordinate_in 65_000_000 c) (question_in d) (minute_within a) (coordinate_within 360_000_000 b) (coordinate_within 65_000_000 c) (question_asked d)
 
 -- the ranges of what words ask
 pub requests_are_in_range : (words : List (List ℕ)) → IfSome (request_in words) IsInRange
@@ -68,6 +76,7 @@ requests_are_in_range [] = tt
 requests_are_in_range (a ∷ []) = tt
 requests_are_in_range (a ∷ b ∷ []) = tt
 requests_are_in_range (a ∷ b ∷ c ∷ []) = tt
-requests_are_in_range (a ∷ b ∷ c ∷ d ∷ []) =
-    request_within (minute_in a) (coordinate_in 360_000_000 b) (coordinate_in 65_000_000 c) (question_in d) (minute_within a) (coordinate_within 360_000_000 b) (coordinate_within 65_000_000 c) (question_asked d)
-requests_are_in_range (a ∷ b ∷ c ∷ d ∷ e ∷ rest) = tt
+requests_are_in_range (a ∷ b ∷ c ∷ d ∷ []) = asked_in_range Usno a b c d
+requests_are_in_range (a ∷ b ∷ c ∷ d ∷ e ∷ []) =
+    either IsInRange (bytes_eq e (sun_word Meeus)) (asked_of Meeus a b c d) None (asked_in_range Meeus a b c d) tt
+requests_are_in_range (a ∷ b ∷ c ∷ d ∷ e ∷ f ∷ rest) = tt

@@ -8,9 +8,8 @@ use Rattle.fixed_interval.specs.Enclosure.{point as exact_point}
 use Rattle.fixed_interval.specs.Grid.{Ends, enclosure_of_range}
 use Rattle.fixed_interval.proofs.FractionLaws.{≤ᶠ_refl}
 use Rattle.fixed_interval.proofs.EnclosureLaws.{LiesIn_refl}
-use Rattle.solar_terms.specs.Sun.{exact_sun, grid_sun}
-use Rattle.solar_terms.proofs.SunLaws.{observatory_is_sound}
-use Rattle.solar_terms.proofs.SunWidths.{observatory_is_narrow}
+use Rattle.chosen_sun.specs.Suns.{exact_sun_of, grid_sun_of}
+use Rattle.chosen_sun.proofs.SunLaws.{suns_are_sound}
 use Rattle.altitude_test.specs.Verdicts.{IsAmong, ShowsSide}
 use Rattle.altitude_test.specs.Tolerance.{IsNarrowRange, IsSmallest, ShowsNear}
 use Rattle.altitude_test.proofs.Tolerance.{open_altitude_is_near, open_meridian_is_near}
@@ -74,17 +73,17 @@ request_is_among r = record {
 
 -- the ends on the grid show the side of the exact value
 pub request_shows_side : (r : Request) (q : Question) →
-    ShowsSide (value_at grid_sun q (point r.minute) (place_of r.lon r.lat)) (asked_at exact_sun q r.minute (spot_of r))
+    ShowsSide (value_at (grid_sun_of r.sun) q (point r.minute) (place_of r.lon r.lat)) (asked_at (exact_sun_of r.sun) q r.minute (spot_of r))
 unfolding value_at asked_at
 request_shows_side r (Altitude angle) =
-    grid_shows_altitude exact_sun grid_sun observatory_is_sound.source observatory_is_sound.grid
+    grid_shows_altitude (exact_sun_of r.sun) (grid_sun_of r.sun) (suns_are_sound r.sun).source (suns_are_sound r.sun).holds
     r.minute (spot_of r) (point r.minute) (place_of r.lon r.lat) (request_is_among r)
     (enclosure_of_range (angle_of angle)) (angle_of angle) (point_is_ordered (angle *ℤ pos 144_000)) (LiesIn_refl _)
 request_shows_side r Meridian =
-    grid_shows_meridian exact_sun grid_sun observatory_is_sound.source observatory_is_sound.grid
+    grid_shows_meridian (exact_sun_of r.sun) (grid_sun_of r.sun) (suns_are_sound r.sun).source (suns_are_sound r.sun).holds
     r.minute (spot_of r) (point r.minute) (place_of r.lon r.lat) (request_is_among r)
 request_shows_side r (Shadow factor) =
-    grid_shows_asr exact_sun grid_sun observatory_is_sound.source observatory_is_sound.grid
+    grid_shows_asr (exact_sun_of r.sun) (grid_sun_of r.sun) (suns_are_sound r.sun).source (suns_are_sound r.sun).holds
     r.minute (spot_of r) (point r.minute) (place_of r.lon r.lat) (request_is_among r) factor
 
 -- one minute and one place are a smallest box
@@ -93,28 +92,28 @@ request_is_smallest r = record { one_minute = refl; x = point_is_narrow 16 _; y 
 
 -- ends on both sides of zero show that the exact value is within the tolerance
 pub request_shows_near : (r : Request) (q : Question) → unsigned_abs r.minute ≤ 53_200_000 →
-    ShowsNear (tolerance_bits q) (value_at grid_sun q (point r.minute) (place_of r.lon r.lat)) (asked_at exact_sun q r.minute (spot_of r))
+    ShowsNear (tolerance_bits q) (value_at (grid_sun_of r.sun) q (point r.minute) (place_of r.lon r.lat)) (asked_at (exact_sun_of r.sun) q r.minute (spot_of r))
 unfolding value_at asked_at
 request_shows_near r (Altitude angle) small =
-    open_altitude_is_near exact_sun grid_sun observatory_is_sound.source observatory_is_sound.grid
+    open_altitude_is_near (exact_sun_of r.sun) (grid_sun_of r.sun) (suns_are_sound r.sun).source (suns_are_sound r.sun).holds
     r.minute (spot_of r) (point r.minute) (place_of r.lon r.lat) (request_is_among r)
-    (observatory_is_narrow (point r.minute) refl small) (request_is_smallest r)
+    ((suns_are_sound r.sun).narrow (point r.minute) refl small) (request_is_smallest r)
     (enclosure_of_range (angle_of angle)) (angle_of angle) (point_is_ordered (angle *ℤ pos 144_000)) (LiesIn_refl _)
     (point_is_narrow 1 _)
 request_shows_near r Meridian small =
-    open_meridian_is_near exact_sun grid_sun observatory_is_sound.source observatory_is_sound.grid
+    open_meridian_is_near (exact_sun_of r.sun) (grid_sun_of r.sun) (suns_are_sound r.sun).source (suns_are_sound r.sun).holds
     r.minute (spot_of r) (point r.minute) (place_of r.lon r.lat) (request_is_among r)
-    (observatory_is_narrow (point r.minute) refl small) (request_is_smallest r)
+    ((suns_are_sound r.sun).narrow (point r.minute) refl small) (request_is_smallest r)
 request_shows_near r (Shadow factor) small =
-    open_asr_is_near exact_sun grid_sun observatory_is_sound.source observatory_is_sound.grid
+    open_asr_is_near (exact_sun_of r.sun) (grid_sun_of r.sun) (suns_are_sound r.sun).source (suns_are_sound r.sun).holds
     r.minute (spot_of r) (point r.minute) (place_of r.lon r.lat) (request_is_among r)
-    (observatory_is_narrow (point r.minute) refl small) (request_is_smallest r) factor
+    ((suns_are_sound r.sun).narrow (point r.minute) refl small) (request_is_smallest r) factor
 
 pub is_true_of_sky : (r : Request) → IsInRange r → IsTrueOfSky r
 unfolding verdict_of value_of
 is_true_of_sky r range =
     let small = small_within 53_200_000 r.minute range.minute in
-    let value = value_at grid_sun r.question (point r.minute) (place_of r.lon r.lat) in
+    let value = value_at (grid_sun_of r.sun) r.question (point r.minute) (place_of r.lon r.lat) in
     let shown = request_shows_side r r.question in
     record {
       above = λ is_above. shown.above (side_is_above value is_above);

@@ -1,5 +1,8 @@
--- The words of `sun MINUTE LON LAT WHAT`: which words are right, and what they ask.
+-- The words of `sun MINUTE LON LAT WHAT [meeus]`: which words are right, and what they ask.
 use Rattle.std.specs.Prelude.{ℕ, ◌==◌, ◌≤◌, if◌then◌else◌, List, [], ◌∷◌, slice_index, codes, bytes_eq, ℤ, pos, neg_ℤ, ◌≤ℤ◌, Option, Some, None, option_map}
+use Rattle.sun_choice.specs.Choice.{sun_word}
+use Rattle.sun_choice.specs.declared.choice.SunChoice.{SunChoice}
+use Rattle.sun_choice.specs.declared.choice.SunChoice.TheVariants.{Usno, Meeus}
 use Rattle.sun_verdict.specs.Decimals.{digits_in, millionths_in, is_negative, without_sign, with_sign, at_most}
 use Rattle.sun_verdict.specs.declared.request.Question.{Question}
 use Rattle.sun_verdict.specs.declared.request.Question.TheVariants.{Altitude, Meridian, Shadow}
@@ -27,15 +30,22 @@ question_in word =
     else (if bytes_eq word (codes "asr2") then Some (Shadow 2)
     else option_map Altitude (angle_in word)))
 
-abbrev pub request_of : Option ℤ → Option ℤ → Option ℤ → Option Question → Option Request
-request_of (Some minute) (Some lon) (Some lat) (Some question) =
-    Some (record { minute = minute; lon = lon; lat = lat; question = question })
-request_of minute lon lat question = None
+abbrev pub request_of : SunChoice → Option ℤ → Option ℤ → Option ℤ → Option Question → Option Request
+request_of sun (Some minute) (Some lon) (Some lat) (Some question) =
+    Some (record { minute = minute; lon = lon; lat = lat; question = question; sun = sun })
+request_of sun minute lon lat question = None
 
--- what the words behind `sun` ask, if each is in its spelling and its range
+-- what four words ask of this sun
+unfoldable pub asked_of : SunChoice → List ℕ → List ℕ → List ℕ → List ℕ → Option Request
+asked_of sun minute lon lat what =
+    request_of sun (minute_in minute) (coordinate_in 360_000_000 lon) (coordinate_in 65_000_000 lat) (question_in what)
+
+-- what the words behind `sun` ask, if each is in its spelling and its range: of the observatory's sun, or with a last word of
+-- Meeus's
 unfoldable pub request_in : List (List ℕ) → Option Request
-request_in (minute ∷ lon ∷ lat ∷ what ∷ []) =
-    request_of (minute_in minute) (coordinate_in 360_000_000 lon) (coordinate_in 65_000_000 lat) (question_in what)
+request_in (minute ∷ lon ∷ lat ∷ what ∷ []) = asked_of Usno minute lon lat what
+request_in (minute ∷ lon ∷ lat ∷ what ∷ last ∷ []) =
+    if bytes_eq last (sun_word Meeus) then asked_of Meeus minute lon lat what else None
 request_in words = None
 
 -- a number whose magnitude is at most this

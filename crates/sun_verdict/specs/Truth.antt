@@ -3,10 +3,10 @@ use Rattle.std.specs.Prelude.{◌≡◌, ℕ, ℤ, pos, ◌*ℤ◌}
 use Rattle.fixed_interval.specs.Fraction.{over}
 use Rattle.fixed_interval.specs.Enclosure.{Enclosure}
 use Rattle.fixed_interval.specs.Grid.{enclosure_of_range}
-use Rattle.solar_terms.specs.Sun.{exact_sun}
 use Rattle.solar_terms.specs.SunLaws.{SunSource}
 use Rattle.altitude_test.specs.Conditions.{Spot, IsAbove, IsBelow, IsWithin, altitude_at, meridian_at}
 use Rattle.asr_test.specs.AsrLaws.{asr_at}
+use Rattle.chosen_sun.specs.Suns.{exact_sun_of}
 use Rattle.sun_verdict.specs.Verdict.{angle_of, verdict_of}
 use Rattle.sun_verdict.specs.declared.request.Question.{Question}
 use Rattle.sun_verdict.specs.declared.request.Question.TheVariants.{Altitude, Meridian, Shadow}
@@ -29,9 +29,13 @@ tolerance_bits (Altitude angle) = 24
 tolerance_bits Meridian = 24
 tolerance_bits (Shadow factor) = 14
 
+-- the value that a request asks for, by its sun
+abbrev pub asked_in : Request → ℕ → Enclosure
+asked_in r = asked_at (exact_sun_of r.sun) r.question r.minute (spot_of r)
+
 -- where the verdict is above, the value is above zero there, where it is below, below, and where it is open, within
 -- the tolerance
 pub record IsTrueOfSky (r : Request) : Type 0 where
-  pub above : verdict_of r ≡ Above → IsAbove (asked_at exact_sun r.question r.minute (spot_of r))
-  pub below : verdict_of r ≡ Below → IsBelow (asked_at exact_sun r.question r.minute (spot_of r))
-  pub undecided : verdict_of r ≡ Open → IsWithin (tolerance_bits r.question) (asked_at exact_sun r.question r.minute (spot_of r))
+  pub above : verdict_of r ≡ Above → IsAbove (asked_in r)
+  pub below : verdict_of r ≡ Below → IsBelow (asked_in r)
+  pub undecided : verdict_of r ≡ Open → IsWithin (tolerance_bits r.question) (asked_in r)

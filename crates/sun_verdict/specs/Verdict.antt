@@ -1,9 +1,10 @@
 -- The verdict on one question at one place and one minute: on which side of zero the enclosure of the value lies.
 use Rattle.std.specs.Prelude.{ℤ, pos, ◌*ℤ◌, int_lt, if◌then◌else◌, List, ℕ, codes}
 use Rattle.fixed_interval.specs.Grid.{Ends, Range}
-use Rattle.solar_terms.specs.Sun.{SunTerms, grid_sun}
+use Rattle.solar_terms.specs.Sun.{SunTerms}
 use Rattle.altitude_test.specs.Values.{Box, grid_altitude_value, grid_meridian_value}
 use Rattle.asr_test.specs.Asr.{grid_asr_value}
+use Rattle.chosen_sun.specs.Suns.{grid_sun_of}
 use Rattle.sun_verdict.specs.declared.request.Question.{Question}
 use Rattle.sun_verdict.specs.declared.request.Question.TheVariants.{Altitude, Meridian, Shadow}
 use Rattle.sun_verdict.specs.declared.request.Request.{Request}
@@ -29,7 +30,7 @@ value_at sun Meridian minutes places = grid_meridian_value (sun minutes) minutes
 value_at sun (Shadow factor) minutes places = grid_asr_value (sun minutes) minutes places factor
 
 unfoldable pub value_of : Request → Ends
-value_of r = value_at grid_sun r.question (point r.minute) (place_of r.lon r.lat)
+value_of r = value_at (grid_sun_of r.sun) r.question (point r.minute) (place_of r.lon r.lat)
 
 -- an enclosure that lies neither above zero nor below leaves the verdict open
 abbrev pub side_of : Ends → Verdict

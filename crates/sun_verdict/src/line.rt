@@ -1,7 +1,7 @@
 // The line of a request with its verdict.
 ghost use Rattle.std.specs.Prelude.{◌≡◌, IfOk, string_bytes};
 ghost use Rattle.outcome.specs.Writing.{Writes};
-ghost use Rattle.sun_verdict.specs.Line.{question_text, line_text, verdict_line, open_count, undecided_in};
+ghost use Rattle.sun_verdict.specs.Line.{question_text, sun_text, line_text, verdict_line, open_count, undecided_in};
 ghost use Rattle.sun_verdict.specs.Request.{IsInRange};
 ghost use Rattle.sun_verdict.specs.Truth.{IsTrueOfSky};
 
@@ -11,6 +11,7 @@ use crate::verdict::{Verdict, verdict_on};
 use outcome::{Stop, write_text};
 use source_sink::Sink;
 use std::alloc::{AllocError, Global};
+use sun_choice::SunChoice;
 
 #[tactic(auto, unfolding(crate::specs::Line::question_text))]
 fn question_string(alloc: Global, question: Question) -> Result<String, AllocError>
@@ -26,6 +27,15 @@ fn question_string(alloc: Global, question: Question) -> Result<String, AllocErr
     }
 }
 
+fn sun_text(sun: SunChoice) -> &'static str
+    ensures { result.now ≡ sun_text sun }
+{
+    match sun {
+        SunChoice::Usno => "",
+        SunChoice::Meeus => " meeus",
+    }
+}
+
 #[tactic(auto, unfolding(crate::specs::Line::line_text))]
 fn line(alloc: Global, request: &Request, verdict: Verdict) -> Result<String, AllocError>
     ensures { IfOk result (λ text. string_bytes text ≡ line_text request.now verdict) }
@@ -34,8 +44,9 @@ fn line(alloc: Global, request: &Request, verdict: Verdict) -> Result<String, Al
     let lon = decimal_string(alloc, request.lon)?;
     let lat = decimal_string(alloc, request.lat)?;
     let question = question_string(alloc, request.question)?;
+    let sun = sun_text(request.sun);
     let word = verdict.word(request.question);
-    format!(in alloc; "minute {minute} lon {lon} lat {lat} {question} {word}\n")
+    format!(in alloc; "minute {minute} lon {lon} lat {lat} {question}{sun} {word}\n")
 }
 
 fn open_count(verdict: Verdict) -> u32

@@ -1,9 +1,10 @@
-// The words of `sun MINUTE LON LAT WHAT`.
+// The words of `sun MINUTE LON LAT WHAT [meeus]`.
 ghost use Rattle.std.specs.Prelude.{◌≡◌, ◌≤◌, map, pos, ◌≤ℤ◌, IfSome, Some, option_map, string_bytes};
 ghost use Rattle.sun_verdict.specs.Decimals.{at_most, with_sign};
-ghost use Rattle.sun_verdict.specs.Request.{minute_in, coordinate_in, angle_in, question_in, request_in, IsWithin, IsAsked, IsInRange};
+ghost use Rattle.sun_verdict.specs.Request.{minute_in, coordinate_in, angle_in, question_in, asked_of, request_in, IsWithin, IsAsked, IsInRange};
 
 use crate::decimals::{digits, millionths, signed, split_sign};
+use sun_choice::{SunChoice, sun_word};
 
 /// What is asked of the sun.
 #[derive(Clone, Copy, Debug, PartialEq, Eq)]
@@ -33,6 +34,8 @@ pub struct Request {
     pub lat: i64,
     /// What is asked there.
     pub question: Question,
+    /// Whose sun is asked.
+    pub sun: SunChoice,
 }
 
 /// The number with its sign, where its magnitude is at most this.
@@ -100,24 +103,51 @@ fn read_question(word: &str) -> Option<Question>
     }
 }
 
-/// What the words behind `sun` ask, if each is in its spelling and its range.
+/// What four words ask of this sun.
+#[tactic(auto, unfolding(crate::specs::Request::asked_of))]
+fn read_asked(sun: SunChoice, minute: &str, lon: &str, lat: &str, what: &str) -> Option<Request>
+    ensures value { result ≡ asked_of sun minute.now lon.now lat.now what.now }
+    ensures range { IfSome result IsInRange }
+{
+    let minute = read_minute(minute)?;
+    let lon = read_coordinate(lon, 360_000_000)?;
+    let lat = read_coordinate(lat, 65_000_000)?;
+    let question = read_question(what)?;
+    Some(Request {
+        minute,
+        lon,
+        lat,
+        question,
+        sun,
+    })
+}
+
+/// What the words behind `sun` ask, if each is in its spelling and its range: of the observatory's sun, or with the last
+/// word `meeus` of Meeus's.
 #[tactic(auto, unfolding(crate::specs::Request::request_in))]
 pub fn read_request(words: &[String]) -> Option<Request>
     ensures value { result ≡ request_in (map string_bytes words.now) }
     ensures range { IfSome result IsInRange }
 {
     match words {
-        [first, second, third, fourth] => {
-            let minute = read_minute(first.as_str());
-            let lon = read_coordinate(second.as_str(), 360_000_000);
-            let lat = read_coordinate(third.as_str(), 65_000_000);
-            let question = read_question(fourth.as_str());
-            Some(Request {
-                minute: minute?,
-                lon: lon?,
-                lat: lat?,
-                question: question?,
-            })
+        [minute, lon, lat, what] => read_asked(
+            SunChoice::Usno,
+            minute.as_str(),
+            lon.as_str(),
+            lat.as_str(),
+            what.as_str(),
+        ),
+        [minute, lon, lat, what, last] => {
+            if last.as_str() != sun_word(SunChoice::Meeus) {
+                return None;
+            }
+            read_asked(
+                SunChoice::Meeus,
+                minute.as_str(),
+                lon.as_str(),
+                lat.as_str(),
+                what.as_str(),
+            )
         }
         _ => None,
     }

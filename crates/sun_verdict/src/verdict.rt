@@ -1,7 +1,8 @@
 // The verdict on one question at one place and one minute.
 ghost use Rattle.std.specs.Prelude.{◌≡◌, ◌≤◌, pos, ◌*ℤ◌, ◌≤ℤ◌};
 ghost use Rattle.fixed_interval.specs.Interval.{ends};
-ghost use Rattle.solar_terms.specs.Sun.{grid_sun, minutes_of};
+ghost use Rattle.chosen_sun.specs.Suns.{grid_sun_of};
+ghost use Rattle.solar_terms.specs.Sun.{minutes_of};
 ghost use Rattle.trig_series.specs.Angle.{range_of};
 ghost use Rattle.altitude_test.specs.Values.{box_of};
 ghost use Rattle.sun_verdict.specs.Request.{IsWithin, IsAsked, IsInRange};
@@ -10,9 +11,10 @@ ghost use Rattle.sun_verdict.specs.Verdict.{point, place_of, angle_of, value_at,
 use crate::request::{Question, Request};
 use altitude_test::{Place, altitude_value, meridian_value};
 use asr_test::asr_value;
+use chosen_sun::chosen_sun;
 use fixed_interval::Interval;
 use solar_terms::Minutes;
-use solar_terms::observatory::sun;
+use sun_choice::SunChoice;
 use trig_series::Angle;
 
 /// The side of zero on which a value lies.
@@ -96,13 +98,13 @@ fn side(value: Interval) -> Verdict
     }
 }
 
-/// The enclosure of the value that is asked for, over the minutes and the places.
+/// The enclosure of the value that is asked for by this sun, over the minutes and the places.
 #[tactic(auto, unfolding(crate::specs::Verdict::value_at))]
-fn value(question: Question, minutes: Minutes, places: Place) -> Interval
+fn value(sun: SunChoice, question: Question, minutes: Minutes, places: Place) -> Interval
     requires { IsAsked question }
-    ensures { ends result ≡ value_at grid_sun question (minutes_of minutes) (box_of places) }
+    ensures { ends result ≡ value_at (grid_sun_of sun) question (minutes_of minutes) (box_of places) }
 {
-    let sun = sun(minutes);
+    let sun = chosen_sun(sun, minutes);
     match question {
         Question::Altitude { angle } => altitude_value(&sun, minutes, places, one_angle(angle)),
         Question::Meridian => meridian_value(&sun, minutes, places),
@@ -118,5 +120,5 @@ pub(crate) fn verdict_on(request: &Request) -> Verdict
 {
     let minutes = one_minute(request.minute);
     let place = one_place(request.lon, request.lat);
-    side(value(request.question, minutes, place))
+    side(value(request.sun, request.question, minutes, place))
 }

@@ -6,11 +6,11 @@ use Rattle.method_table.specs.Row.{Row, row_of}
 use Rattle.order_table.specs.Trees.{entries_of}
 use Rattle.order_table.specs.declared.day.Day.{Day}
 use Rattle.region.specs.Rings.{Polygon}
-use Rattle.year_table.specs.declared.head.SunChoice.TheVariants.{Usno}
+use Rattle.sun_choice.specs.declared.choice.SunChoice.{SunChoice}
 
 abbrev pub rows_on : Day → List Row
 rows_on day = map row_of day.problems
 
--- of the observatory's sky over a district, seven to a day
-abbrev pub entries_on : List Polygon → Cell → Day → List Entry
-entries_on polygons root day = entries_of Usno polygons root (rows_on day)
+-- of a sky over a district, seven to a day
+abbrev pub entries_on : SunChoice → List Polygon → Cell → Day → List Entry
+entries_on sun polygons root day = entries_of sun polygons root (rows_on day)

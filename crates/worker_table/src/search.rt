@@ -1,12 +1,12 @@
 // Several days of a table, searched together.
 ghost use Rattle.std.specs.Prelude.{◌≡◌, ◌*◌, ◌<◌, ◌≤◌, ◌^◌, All, IfOk, length, map, slice_index_or};
+ghost use Rattle.cell_judge.specs.Skies.{sky_content};
 ghost use Rattle.days_sky.specs.Days.{days_content, rows_of_day};
 ghost use Rattle.method_table.specs.Row.{row_of};
 ghost use Rattle.order_table.specs.Printing.{IsPrintable};
-ghost use Rattle.order_table.specs.Trees.{entry_at, judge_of};
+ghost use Rattle.order_table.specs.Trees.{entry_at};
 ghost use Rattle.steal_pool.specs.Harvests.{IsHarvest};
 ghost use Rattle.worker_table.specs.Entries.{entries_on, rows_on};
-ghost use Rattle.year_table.specs.declared.head.SunChoice.TheVariants.{Usno};
 
 use cell_judge::Sky;
 use cell_split::Entry;
@@ -32,11 +32,11 @@ fn judged_days(alloc: Global, days: &[Day]) -> Result<Vec<days_sky::Day>, NoMemo
 
 /// The entry of a column on day `i`, from the harvest of a search for all days.
 fn entry_in(sky: &DaysSky, harvest: &Harvest, i: u32, day: &Day, column: u32) -> Entry
-    requires harvest { IsHarvest (days_content sky.now.sky.now.district (map rows_of_day sky.now.days.now) sky.now.sky.now.root) harvest.now.refuted harvest.now.leaves }
+    requires harvest { IsHarvest (days_content sky.now.sky.now.sun sky.now.sky.now.district (map rows_of_day sky.now.days.now) sky.now.sky.now.root) harvest.now.refuted harvest.now.leaves }
     requires within { i < length sky.now.days.now }
     requires own { slice_index_or (map rows_of_day sky.now.days.now) i (rows_on day.now) ≡ rows_on day.now }
     requires column { column < 7 }
-    ensures value { result ≡ entry_at (judge_of Usno sky.now.sky.now.district sky.now.sky.now.root (rows_on day.now)) column }
+    ensures value { result ≡ entry_at (sky_content sky.now.sky.now.sun sky.now.sky.now.district (rows_on day.now) sky.now.sky.now.root) column }
     ensures printable { IsPrintable result }
 {
     entry_of(sky, harvest, 7 * i + column)
@@ -45,10 +45,10 @@ fn entry_in(sky: &DaysSky, harvest: &Harvest, i: u32, day: &Day, column: u32) ->
 /// The entries of day `i`.
 #[tactic(auto, unfolding(order_table::specs::Trees::entries_of))]
 fn entries_in(sky: &DaysSky, harvest: &Harvest, i: u32, day: &Day) -> [Entry; 7]
-    requires harvest { IsHarvest (days_content sky.now.sky.now.district (map rows_of_day sky.now.days.now) sky.now.sky.now.root) harvest.now.refuted harvest.now.leaves }
+    requires harvest { IsHarvest (days_content sky.now.sky.now.sun sky.now.sky.now.district (map rows_of_day sky.now.days.now) sky.now.sky.now.root) harvest.now.refuted harvest.now.leaves }
     requires within { i < length sky.now.days.now }
     requires own { slice_index_or (map rows_of_day sky.now.days.now) i (rows_on day.now) ≡ rows_on day.now }
-    ensures value { result ≡ entries_on sky.now.sky.now.district sky.now.sky.now.root day.now }
+    ensures value { result ≡ entries_on sky.now.sky.now.sun sky.now.sky.now.district sky.now.sky.now.root day.now }
     ensures printable { All IsPrintable result }
 {
     [
@@ -69,10 +69,10 @@ fn entries_of_days(
     harvest: &Harvest,
     days: &[Day],
 ) -> Result<Vec<[Entry; 7]>, NoMemory>
-    requires harvest { IsHarvest (days_content sky.now.sky.now.district (map rows_of_day sky.now.days.now) sky.now.sky.now.root) harvest.now.refuted harvest.now.leaves }
+    requires harvest { IsHarvest (days_content sky.now.sky.now.sun sky.now.sky.now.district (map rows_of_day sky.now.days.now) sky.now.sky.now.root) harvest.now.refuted harvest.now.leaves }
     requires own { map rows_of_day sky.now.days.now ≡ map rows_on days.now }
     requires short { length days.now < 2 ^ 32 }
-    ensures entries { IfOk result (λ found. found.items ≡ map (entries_on sky.now.sky.now.district sky.now.sky.now.root) days.now) }
+    ensures entries { IfOk result (λ found. found.items ≡ map (entries_on sky.now.sky.now.sun sky.now.sky.now.district sky.now.sky.now.root) days.now) }
     ensures printable { IfOk result (λ found. All (All IsPrintable) found.items) }
 {
     let mut found = Vec::new(alloc);
@@ -94,7 +94,7 @@ pub fn search_days<R: Threads + Wait + Sync, G: Gate + Sync>(
     requires some { 1 ≤ workers }
     requires few { workers ≤ 16 }
     requires short { 7 * length days.now < 2 ^ 32 }
-    ensures entries { IfOk result (λ found. found.items ≡ map (entries_on sky.now.district sky.now.root) days.now) }
+    ensures entries { IfOk result (λ found. found.items ≡ map (entries_on sky.now.sun sky.now.district sky.now.root) days.now) }
     ensures printable { IfOk result (λ found. All (All IsPrintable) found.items) }
 {
     let judged = judged_days(alloc, days)?;

@@ -14,7 +14,7 @@ use crate::search::search_days;
 use cell_judge::Sky;
 use cell_split::Entry;
 use order_reader::Order;
-use order_table::{Day, Ready, prepare, write_day, write_end};
+use order_table::{Day, Ready, prepare, write_end, write_searched};
 use outcome::Stop;
 use source_sink::{Sink, write_all};
 use std::alloc::Global;
@@ -26,25 +26,29 @@ use steal_pool::Gate;
 /// first lines of a year's table come long before its last day is searched.
 const DAYS_TOGETHER: usize = 8;
 
-/// Writes the lines of these days with their entries; answers how many of them are undecided.
+/// Writes the lines of these days with the entries of their columns; answers how many of these are undecided. The nights of
+/// the days are searched here, each before its day is written.
 fn write_days<K: Sink>(
     alloc: Global,
-    sky: &Sky,
+    sky: &mut Sky,
     days: &[Day],
     entries: &[[Entry; 7]],
     out: &mut K,
 ) -> Result<u32, Stop>
-    requires entries { entries.now ≡ map (entries_on sky.now.district sky.now.root) days.now }
+    requires entries { entries.now ≡ map (entries_on sky.old.sun sky.old.district sky.old.root) days.now }
     requires printable { All (All IsPrintable) entries.now }
     requires few { length days.now ≤ 366 }
-    ensures writes { Writes (days_text (map (searched sky.now.district sky.now.root) days.now)) result
+    ensures writes { Writes (days_text (map (searched sky.old.sun sky.old.district sky.old.root) days.now)) result
         (K.faults out.old) (K.faults out.new) (K.held out.old) (K.held out.new) }
-    ensures count { IfOk result (λ count. count ≡ days_undecided (map (searched sky.now.district sky.now.root) days.now)) }
+    ensures count { IfOk result (λ count. count ≡ days_undecided (map (searched sky.old.sun sky.old.district sky.old.root) days.now)) }
     ensures few { IfOk result (λ count. count ≤ 7 * length days.now) }
+    ensures sun { sky.new.sun ≡ sky.old.sun }
+    ensures district { sky.new.district ≡ sky.old.district }
+    ensures root { sky.new.root ≡ sky.old.root }
 {
     let mut undecided = 0;
     for (i, day) in days.iter().enumerate() {
-        match write_day(alloc, day, &entries[i], out) {
+        match write_searched(alloc, sky, day, &entries[i], out) {
             Ok(count) => undecided += count,
             Err(stop) => return Err(stop),
         }
@@ -52,11 +56,11 @@ fn write_days<K: Sink>(
     Ok(undecided)
 }
 
-/// Searches these days together and writes their lines; answers how many of their entries are undecided.
+/// Searches these days together and writes their lines; answers how many of their columns' entries are undecided.
 fn write_together<R: Threads + Wait + Sync, K: Sink, G: Gate + Sync>(
     rt: &R,
     alloc: Global,
-    sky: &Sky,
+    sky: &mut Sky,
     days: &[Day],
     workers: u32,
     gate: &G,
@@ -65,10 +69,13 @@ fn write_together<R: Threads + Wait + Sync, K: Sink, G: Gate + Sync>(
     requires some { 1 ≤ workers }
     requires few_workers { workers ≤ 16 }
     requires few { length days.now ≤ 366 }
-    ensures writes { Writes (days_text (map (searched sky.now.district sky.now.root) days.now)) result
+    ensures writes { Writes (days_text (map (searched sky.old.sun sky.old.district sky.old.root) days.now)) result
         (K.faults out.old) (K.faults out.new) (K.held out.old) (K.held out.new) }
-    ensures count { IfOk result (λ count. count ≡ days_undecided (map (searched sky.now.district sky.now.root) days.now)) }
+    ensures count { IfOk result (λ count. count ≡ days_undecided (map (searched sky.old.sun sky.old.district sky.old.root) days.now)) }
     ensures few { IfOk result (λ count. count ≤ 7 * length days.now) }
+    ensures sun { sky.new.sun ≡ sky.old.sun }
+    ensures district { sky.new.district ≡ sky.old.district }
+    ensures root { sky.new.root ≡ sky.old.root }
 {
     match search_days(rt, alloc, sky, days, workers, gate) {
         Ok(entries) => write_days(alloc, sky, days, &entries, out),
@@ -76,11 +83,12 @@ fn write_together<R: Threads + Wait + Sync, K: Sink, G: Gate + Sync>(
     }
 }
 
-/// Searches all days, some of them at a time, and writes their lines; answers how many of their entries are undecided.
+/// Searches all days, some of them at a time, and writes their lines; answers how many of their columns' entries are
+/// undecided.
 fn write_all_days<R: Threads + Wait + Sync, K: Sink, G: Gate + Sync>(
     rt: &R,
     alloc: Global,
-    sky: &Sky,
+    sky: &mut Sky,
     days: &[Day],
     workers: u32,
     gate: &G,
@@ -89,9 +97,9 @@ fn write_all_days<R: Threads + Wait + Sync, K: Sink, G: Gate + Sync>(
     requires some { 1 ≤ workers }
     requires few_workers { workers ≤ 16 }
     requires few { length days.now ≤ 366 }
-    ensures writes { Writes (days_text (map (searched sky.now.district sky.now.root) days.now)) result
+    ensures writes { Writes (days_text (map (searched sky.old.sun sky.old.district sky.old.root) days.now)) result
         (K.faults out.old) (K.faults out.new) (K.held out.old) (K.held out.new) }
-    ensures count { IfOk result (λ count. count ≡ days_undecided (map (searched sky.now.district sky.now.root) days.now)) }
+    ensures count { IfOk result (λ count. count ≡ days_undecided (map (searched sky.old.sun sky.old.district sky.old.root) days.now)) }
 {
     let mut undecided = 0;
     let mut begun = 0;
@@ -110,20 +118,20 @@ fn write_all_days<R: Threads + Wait + Sync, K: Sink, G: Gate + Sync>(
 fn write_front<R: Threads + Wait + Sync, K: Sink, G: Gate + Sync>(
     rt: &R,
     alloc: Global,
-    ready: &Ready,
+    ready: &mut Ready,
     workers: u32,
     gate: &G,
     out: &mut K,
 ) -> Result<u32, Stop>
     requires some { 1 ≤ workers }
     requires few_workers { workers ≤ 16 }
-    requires few { length ready.now.days.items ≤ 366 }
-    ensures writes { Writes (front_of ready.now) result
+    requires few { length ready.old.days.items ≤ 366 }
+    ensures writes { Writes (front_of ready.old) result
         (K.faults out.old) (K.faults out.new) (K.held out.old) (K.held out.new) }
-    ensures count { IfOk result (λ count. count ≡ days_undecided (found_in ready.now)) }
+    ensures count { IfOk result (λ count. count ≡ days_undecided (found_in ready.old)) }
 {
     match write_all(out, &ready.head) {
-        Ok(()) => write_all_days(rt, alloc, &ready.sky, &ready.days, workers, gate, out),
+        Ok(()) => write_all_days(rt, alloc, &mut ready.sky, &ready.days, workers, gate, out),
         Err(_) => Err(Stop::WriteFault),
     }
 }
@@ -145,10 +153,10 @@ pub fn write_table<R: Threads + Wait + Sync, K: Sink, G: Gate + Sync>(
     ensures right { IsRightTable (asked_of order) }
 {
     let days = order.days;
-    let Ok(ready) = prepare(alloc, order) else {
+    let Ok(mut ready) = prepare(alloc, order) else {
         return Err(Stop::NoMemory);
     };
-    let undecided = match write_front(rt, alloc, &ready, workers, gate, out) {
+    let undecided = match write_front(rt, alloc, &mut ready, workers, gate, out) {
         Ok(undecided) => undecided,
         Err(stop) => return Err(stop),
     };

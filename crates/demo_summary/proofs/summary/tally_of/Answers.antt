@@ -11,6 +11,6 @@ returns c =
     let ready = c.args.ready.now in
     let entries = c.args.entries.now in
     let fits : FitsSigned w32 c.sum_of.result = search rules in
-    tally_is ready.sky.district ready.sky.root ready.days.items entries _ c.requires.entries
+    tally_is ready.sky.sun ready.sky.district ready.sky.root ready.days.items entries _ c.requires.entries
     c.count_of.ensures c.count_of-2.ensures c.count_of-3.ensures c.count_of-4.ensures
     (to_z-of_z w32 c.sum_of.result fits ∙ c.sum_of.ensures ∙ ap (λ (days : List Day). total of_day (zip days entries)) c.deref.ensures.value)

@@ -7,10 +7,11 @@ use Rattle.order_table.proofs.table.search_days.Given as goal
 -- the lines of the days so far are written, and their undecided entries counted
 abbrev pub invariant-loop-day : goal.invariant-loop-day
 invariant-loop-day g l = record {
+  sun : l.sky.sun ≡ l.fn.sky.sun;
   district : l.sky.district ≡ l.fn.sky.district;
   root : l.sky.root ≡ l.fn.sky.root;
-  count : l.undecided ≡ days_undecided (map (searched l.fn.sky.district l.fn.sky.root) (take l.day-index l.days));
+  count : l.undecided ≡ days_undecided (map (searched l.fn.sky.sun l.fn.sky.district l.fn.sky.root) (take l.day-index l.days));
   few : l.undecided ≤ 7 * l.day-index;
   later : g.K.Sink.faults l.fn.out ≤ g.K.Sink.faults l.out;
-  written : Adds (g.K.Sink.held l.fn.out) (g.K.Sink.held l.out) (days_text (map (searched l.fn.sky.district l.fn.sky.root) (take l.day-index l.days)));
+  written : Adds (g.K.Sink.held l.fn.out) (g.K.Sink.held l.out) (days_text (map (searched l.fn.sky.sun l.fn.sky.district l.fn.sky.root) (take l.day-index l.days)));
 }

@@ -8,4 +8,5 @@ pub returns : goal.returns
 returns c =
     let day = c.args.day.now in
     let number : FitsSigned w32 c.args.day.now.number = search rules in
-    text_is (day_of day) day.problems c.args.entries.now _ _ refl (simp to_z-of_z at c.in_ok-text.ensures) c.in_ok-push_opens.ensures
+    text_is (day_of day) day.problems c.args.entries.now c.args.night_entries.now _ _ _ refl (simp to_z-of_z at c.in_ok-text.ensures) c.in_ok-push_opens.ensures
+    c.in_ok-push_night.ensures

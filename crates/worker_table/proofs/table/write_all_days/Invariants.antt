@@ -10,9 +10,12 @@ decreases-loop-begun g l = length l.days - l.begun
 -- the lines of the days so far are written, and their undecided entries counted
 abbrev pub invariant-loop-begun : goal.invariant-loop-begun
 invariant-loop-begun g l = record {
-  count : l.undecided ≡ days_undecided (map (searched l.sky.district l.sky.root) (take l.begun l.days));
+  sun : l.sky.sun ≡ l.fn.sky.sun;
+  district : l.sky.district ≡ l.fn.sky.district;
+  root : l.sky.root ≡ l.fn.sky.root;
+  count : l.undecided ≡ days_undecided (map (searched l.fn.sky.sun l.fn.sky.district l.fn.sky.root) (take l.begun l.days));
   few : l.undecided ≤ 7 * l.begun;
   within : l.begun ≤ length l.days;
   later : g.K.Sink.faults l.fn.out ≤ g.K.Sink.faults l.out;
-  written : Adds (g.K.Sink.held l.fn.out) (g.K.Sink.held l.out) (days_text (map (searched l.sky.district l.sky.root) (take l.begun l.days)));
+  written : Adds (g.K.Sink.held l.fn.out) (g.K.Sink.held l.out) (days_text (map (searched l.fn.sky.sun l.fn.sky.district l.fn.sky.root) (take l.begun l.days)));
 }

@@ -1,9 +1,9 @@
 use Rattle.std.proofs.Common.{◌∙◌, ap, arith, length, map}
 use Rattle.std.proofs.lemmas.List.{length-map}
 use Rattle.method_table.specs.Row.{row_of}
-use Rattle.year_table.specs.declared.head.SunChoice.TheVariants.{Usno}
-use Rattle.order_table.specs.Trees.{entry_at, judge_of}
-use Rattle.order_table.proofs.table.entry_in.Goals as goal
+use Rattle.cell_judge.specs.Skies.{sky_content}
+use Rattle.order_table.specs.Trees.{entry_at}
+use Rattle.order_table.proofs.search.entry_in.Goals as goal
 
 pub entry_at-requires : goal.entry_at-requires
 entry_at-requires c =
@@ -14,4 +14,4 @@ entry_at-requires c =
 pub returns-clause-value : goal.returns-clause-value
 returns-clause-value c =
     c.entry_at.ensures.value
-    ∙ ap (λ ps. entry_at (judge_of Usno c.args.sky.now.district c.args.sky.now.root (map row_of ps)) c.args.column) c.requires.day
+    ∙ ap (λ ps. entry_at (sky_content c.args.sky.now.sun c.args.sky.now.district (map row_of ps) c.args.sky.now.root) c.args.column) c.requires.day
