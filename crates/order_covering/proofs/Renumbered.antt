@@ -1,9 +1,14 @@
 -- What is settled of a tree doesn't depend on the number of its problem.
-use Rattle.std.proofs.Common.{◌≡◌, ℕ, zero, suc, ◌+◌, ◌*◌, ◌<◌, ◌≤◌, Bool, true, false, cond, ltb, List, [], ◌∷◌, ◌++◌, length, map, find, get_or, Option, Some, Result, Ok, Err, refl, sym, ap, ◌∙◌, arith}
+use Rattle.std.proofs.Common.{◌≡◌, ℕ, zero, suc, ◌+◌, ◌*◌, ◌<◌, ◌≤◌, Bool, true, false, cond, ltb, List, [], ◌∷◌, ◌++◌, length, map, find, get_or, Option, Some, Result, Ok, Err, refl, sym, ap, ◌∙◌, append-nil, subst, arith}
 use Rattle.std.specs.Prelude.{IfOk, ◌==◌, ◌&&◌}
 use Rattle.std.specs.List.{flat_map}
 use Rattle.std.specs.Option.{option_and_then, option_to_list}
-use Rattle.solar_terms.specs.Sun.{grid_sun}
+use Rattle.chosen_sun.specs.Suns.{grid_sun_of}
+use Rattle.sun_choice.specs.declared.choice.SunChoice.{SunChoice}
+use Rattle.night_portion.specs.Few.{first_problems}
+use Rattle.night_portion.specs.Sun.{repeated}
+use Rattle.order_covering.specs.Covering.{night_content}
+use Rattle.order_table.specs.Trees.{entry_at}
 use Rattle.method_table.specs.Row.{Row}
 use Rattle.region.specs.Rings.{Polygon}
 use Rattle.cell_split.specs.declared.cell.Cell.{Cell}
@@ -27,7 +32,9 @@ use Rattle.covering.specs.Letters.{cut, letter_of, letters_of}
 use Rattle.covering.specs.Refuted.{first_refuted, rank_of, refuted_at}
 use Rattle.covering.specs.Settles.{IsSettled, leaves_of, refuted_word_of}
 use Rattle.covering.proofs.Spelling.{letters-step}
-use Rattle.days_sky.specs.Days.{all_rows, days_content}
+use Rattle.cell_judge.specs.declared.sky.Sky.{Sky}
+use Rattle.days_sky.specs.declared.day.Day.{Day}
+use Rattle.days_sky.specs.Days.{all_rows, days_content, rows_of_day}
 use Rattle.days_sky.proofs.DayLemmas.{row_of_day}
 
 -- the letters of a task with this verdict, whose children have these
@@ -79,20 +86,47 @@ settled_as c other law j k answers s is =
     }
 
 -- problem 7 i + k of several days is settled as problem k of day i's own sky
-pub own_settled : (polygons : List Polygon) (root : Cell) → IsRoot root → (days : List (List Row)) → Every (λ rows. length rows ≡ 7) days →
+pub own_settled : (sun : SunChoice) (polygons : List Polygon) (root : Cell) → IsRoot root → (days : List (List Row)) → Every (λ rows. length rows ≡ 7) days →
     (i : ℕ) (rows : List Row) → i < length days → get_or days i rows ≡ rows → (k : ℕ) → k < 7 → (s : Settled) →
-    IsSettled (days_content polygons days root) (7 * i + k) s → IsSettled (sky_content polygons rows root) k s
-own_settled polygons root is days each i rows inside own k known s settled =
+    IsSettled (days_content sun polygons days root) (7 * i + k) s → IsSettled (sky_content sun polygons rows root) k s
+own_settled sun polygons root is days each i rows inside own k known s settled =
     let day : row_at (all_rows days) (7 * i + k) ≡ row_at rows k =
     row_of_day days i k rows _ each inside known ∙ ap (λ (l : List Row). row_at l k) own in
-    settled_as (days_content polygons days root) (sky_content polygons rows root) (skies_are_lawful polygons rows root is) (7 * i + k) k (record {
+    settled_as (days_content sun polygons days root) (sky_content sun polygons rows root) (skies_are_lawful sun polygons rows root is) (7 * i + k) k (record {
       same_root = refl;
-      same_verdicts = λ cell in'. ap (λ (row : Row). verdict_on grid_sun row polygons cell) day;
+      same_verdicts = λ cell in'. ap (λ (row : Row). verdict_on (grid_sun_of sun) row polygons cell) day;
     }) s settled
 
-pub own_settled_if : {E : Type 0} (polygons : List Polygon) (root : Cell) → IsRoot root → (days : List (List Row)) → Every (λ rows. length rows ≡ 7) days →
+pub own_settled_if : {E : Type 0} (sun : SunChoice) (polygons : List Polygon) (root : Cell) → IsRoot root → (days : List (List Row)) → Every (λ rows. length rows ≡ 7) days →
     (i : ℕ) (rows : List Row) → i < length days → get_or days i rows ≡ rows → (k : ℕ) → k < 7 → (r : Result Settled E) →
-    IfOk r (IsSettled (days_content polygons days root) (7 * i + k)) → IfOk r (IsSettled (sky_content polygons rows root) k)
-own_settled_if polygons root is days each i rows inside own k known (Ok s) settled =
-    own_settled polygons root is days each i rows inside own k known s settled
-own_settled_if polygons root is days each i rows inside own k known (Err e) settled = tt
+    IfOk r (IsSettled (days_content sun polygons days root) (7 * i + k)) → IfOk r (IsSettled (sky_content sun polygons rows root) k)
+own_settled_if sun polygons root is days each i rows inside own k known (Ok s) settled =
+    own_settled sun polygons root is days each i rows inside own k known s settled
+own_settled_if sun polygons root is days each i rows inside own k known (Err e) settled = tt
+
+-- a problem of the one day that is searched is settled as that of its sky
+pub one_settled : (count : ℕ) (sky' sky : Sky) (days : List Day) (rows : List Row) → sky' ≡ sky → map rows_of_day days ≡ rows ∷ [] →
+    (k : ℕ) (s : Settled) → IsSettled (first_problems count (days_content sky'.sun sky'.district (map rows_of_day days) sky'.root)) k s →
+    IsSettled (sky_content sky.sun sky.district rows sky.root) k s
+one_settled count sky' sky days rows same one k s settled =
+    let c : Sky → Content = λ x. first_problems count (days_content x.sun x.district (map rows_of_day days) x.root) in
+    let day : row_at (all_rows (map rows_of_day days)) k ≡ row_at rows k =
+    ap (λ (l : List (List Row)). row_at (all_rows l) k) one ∙ ap (λ (l : List Row). row_at l k) (append-nil rows) in
+    settled_as (c sky) (sky_content sky.sun sky.district rows sky.root) (skies_are_lawful sky.sun sky.district rows sky.root sky.is_root) k k (record {
+      same_root = refl;
+      same_verdicts = λ cell in'. ap (λ (row : Row). verdict_on (grid_sun_of sky.sun) row sky.district cell) day;
+    }) s (subst (λ (x : Sky). IsSettled (c x) k s) same settled)
+
+same_row : (rows : List Row) (k : ℕ) → k < 2 → row_at (repeated rows) k ≡ row_at rows k
+same_row rows zero known = refl
+same_row rows (suc zero) known = refl
+same_row rows (suc (suc k)) known = absurd (omega (arith, known))
+
+-- sunrise and sunset have the entries that the table has of them
+pub night_entry_is : (sun : SunChoice) (polygons : List Polygon) (root : Cell) (rows : List Row) (k : ℕ) → IsRoot root → k < 2 →
+    entry_at (night_content sun polygons root rows) k ≡ entry_at (sky_content sun polygons rows root) k
+night_entry_is sun polygons root rows k is known =
+    (renumbered_trees (night_content sun polygons root rows) (sky_content sun polygons rows root) (skies_are_lawful sun polygons rows root is) k k (record {
+      same_root = refl;
+      same_verdicts = λ cell in'. ap (λ (row : Row). verdict_on (grid_sun_of sun) row polygons cell) (same_row rows k known);
+    })).same_entry

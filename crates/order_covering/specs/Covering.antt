@@ -1,24 +1,26 @@
--- The covering of an order, whoever finds its trees: its canonical line, and then a line for each day and column.
-use Rattle.std.specs.Prelude.{ℕ, List, ◌∷◌, [], ◌++◌, codes, flat_map, Option}
+-- The covering of an order, whoever finds its trees: its canonical line, and then a line for each day and column; where the order has
+-- a rule for nights, two more for sunrise and sunset.
+use Rattle.std.specs.Prelude.{ℕ, zero, suc, ℤ, List, ◌∷◌, [], ◌++◌, codes, flat_map, Option, None, Some}
 use Rattle.cell_split.specs.declared.cell.Cell.{Cell}
 use Rattle.cell_split.specs.Judges.{Content}
 use Rattle.cell_split.specs.Tree.{root_task}
-use Rattle.cell_judge.specs.Skies.{row_at}
+use Rattle.cell_judge.specs.Skies.{row_at, sky_content}
 use Rattle.covering.specs.Letters.{letters_of}
 use Rattle.covering.specs.Lines.{cell_data, members_data, point_data}
 use Rattle.covering.specs.Refuted.{first_refuted, rank_of}
 use Rattle.covering.specs.Runs.{runs_text}
 use Rattle.covering.specs.Settles.{leaves_of, refuted_word_of}
-use Rattle.method_table.specs.Row.{column_word}
+use Rattle.method_table.specs.Row.{Row, column_word}
+use Rattle.night_portion.specs.Sun.{repeated}
 use Rattle.order_reader.specs.Asked.{Asked}
 use Rattle.order_reader.specs.Line.{order_line}
-use Rattle.order_table.specs.Days.{DayRows, days_of}
-use Rattle.order_table.specs.Trees.{columns, judge_of, root_over}
+use Rattle.order_table.specs.Days.{DayRows, NightRows, days_of}
+use Rattle.order_table.specs.Trees.{columns, night_columns, root_over}
 use Rattle.region.specs.declared.points.Point.{Point}
 use Rattle.region.specs.Rings.{Polygon}
 use Rattle.serde_json.specs.Written.{compact_text}
 use Rattle.year_table.specs.Dates.{date_text}
-use Rattle.year_table.specs.declared.head.SunChoice.{SunChoice}
+use Rattle.sun_choice.specs.declared.choice.SunChoice.{SunChoice}
 use Rattle.order_covering.specs.declared.form.Form.{Form}
 use Rattle.order_covering.specs.declared.form.Form.TheVariants.{Letters, Runs}
 
@@ -49,11 +51,30 @@ line_of form column date c k =
 -- the line of a column of a day, over a district
 abbrev pub column_line : Form → SunChoice → List Polygon → Cell → DayRows → ℕ → List ℕ
 column_line form sun polygons root day k =
-    line_of form (column_word (row_at day.rows k).column) (date_text day.number) (judge_of sun polygons root day.rows) k
+    line_of form (column_word (row_at day.rows k).column) (date_text day.number) (sky_content sun polygons day.rows root) k
 
--- the lines of a day, in the order of the columns
+-- the words of sunrise and sunset
+abbrev pub sun_word : ℕ → List ℕ
+sun_word zero = codes "rise"
+sun_word (suc k) = codes "set"
+
+-- the judge of the rows of sunrise and sunset, its problems 0 and 1
+abbrev pub night_content : SunChoice → List Polygon → Cell → List Row → Content
+night_content sun polygons root rows = sky_content sun polygons (repeated rows) root
+
+-- the line of sunrise (0) or sunset (1) of a day
+abbrev pub sun_line : Form → SunChoice → List Polygon → Cell → ℤ → List Row → ℕ → List ℕ
+sun_line form sun polygons root day rows k = line_of form (sun_word k) (date_text day) (night_content sun polygons root rows) k
+
+-- both, where the order has a rule for nights
+abbrev pub night_lines : Form → SunChoice → List Polygon → Cell → ℤ → Option NightRows → List ℕ
+night_lines form sun polygons root day (Some night) = flat_map (sun_line form sun polygons root day night.rows) night_columns
+night_lines form sun polygons root day None = []
+
+-- the lines of a day: in the order of the columns, and then those of its night
 unfoldable pub day_lines : Form → SunChoice → List Polygon → Cell → DayRows → List ℕ
-day_lines form sun polygons root day = flat_map (column_line form sun polygons root day) columns
+day_lines form sun polygons root day =
+    flat_map (column_line form sun polygons root day) columns ++ night_lines form sun polygons root day.number day.night
 
 -- the covering's text
 unfoldable pub covering_of : Form → Asked → List ℕ

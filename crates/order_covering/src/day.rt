@@ -1,9 +1,9 @@
-// The lines of a day, settled from the search of several days and written.
+// The lines of a day's columns, settled from the search of several days and written.
 ghost use Rattle.std.specs.Prelude.{◌≡◌, ◌<◌, ◌≤◌, length, map, slice_index_or, IfOk};
 ghost use Rattle.cell_judge.specs.Skies.{sky_content};
 ghost use Rattle.covering.specs.Settles.{IsSettled};
 ghost use Rattle.days_sky.specs.Days.{days_content, rows_of_day};
-ghost use Rattle.order_covering.specs.Made.{IsDayIn, counted_at, rows_of, written, written_at};
+ghost use Rattle.order_covering.specs.Made.{IsDayIn, columns_written, counted_at, rows_of, written_at};
 ghost use Rattle.order_table.specs.Made.{searched};
 ghost use Rattle.order_table.specs.Table.{day_undecided};
 ghost use Rattle.outcome.specs.Writing.{Writes};
@@ -31,10 +31,10 @@ fn settle_column(
     day: &Day,
     k: u32,
 ) -> Result<Settled, NoMemory>
-    requires harvest { IsHarvest (days_content judge.now.sky.now.district (map rows_of_day judge.now.days.now) judge.now.sky.now.root) harvest.now.refuted harvest.now.leaves }
+    requires harvest { IsHarvest (days_content judge.now.sky.now.sun judge.now.sky.now.district (map rows_of_day judge.now.days.now) judge.now.sky.now.root) harvest.now.refuted harvest.now.leaves }
     requires day { IsDayIn (map rows_of_day judge.now.days.now) i day.now }
     requires column { k < 7 }
-    ensures { IfOk result (IsSettled (sky_content judge.now.sky.now.district (rows_of day.now) judge.now.sky.now.root) k) }
+    ensures { IfOk result (IsSettled (sky_content judge.now.sky.now.sun judge.now.sky.now.district (rows_of day.now) judge.now.sky.now.root) k) }
 {
     settle(alloc, judge, harvest, 7 * i as u32 + k)
 }
@@ -51,12 +51,12 @@ fn write_column<K: Sink>(
     form: Form,
     out: &mut K,
 ) -> Result<u32, Stop>
-    requires harvest { IsHarvest (days_content judge.now.sky.now.district (map rows_of_day judge.now.days.now) judge.now.sky.now.root) harvest.now.refuted harvest.now.leaves }
+    requires harvest { IsHarvest (days_content judge.now.sky.now.sun judge.now.sky.now.district (map rows_of_day judge.now.days.now) judge.now.sky.now.root) harvest.now.refuted harvest.now.leaves }
     requires day { IsDayIn (map rows_of_day judge.now.days.now) i day.now }
     requires column { k < 7 }
-    ensures writes { Writes (written_at form judge.now.sky.now.district judge.now.sky.now.root day.now date.now k) result
+    ensures writes { Writes (written_at form judge.now.sky.now.sun judge.now.sky.now.district judge.now.sky.now.root day.now date.now k) result
         (K.faults out.old) (K.faults out.new) (K.held out.old) (K.held out.new) }
-    ensures count { IfOk result (λ count. count ≡ counted_at judge.now.sky.now.district judge.now.sky.now.root day.now k) }
+    ensures count { IfOk result (λ count. count ≡ counted_at judge.now.sky.now.sun judge.now.sky.now.district judge.now.sky.now.root day.now k) }
     ensures few { IfOk result (λ count. count ≤ 1) }
 {
     let Ok(settled) = settle_column(alloc, judge, harvest, i, day, k) else {
@@ -67,7 +67,7 @@ fn write_column<K: Sink>(
 }
 
 /// Settles each column of day `i` and writes its lines; answers how many of its entries are undecided.
-pub(crate) fn write_day<K: Sink>(
+pub(crate) fn write_columns<K: Sink>(
     alloc: Global,
     judge: &DaysSky<'_>,
     harvest: &Harvest,
@@ -76,11 +76,11 @@ pub(crate) fn write_day<K: Sink>(
     form: Form,
     out: &mut K,
 ) -> Result<u32, Stop>
-    requires harvest { IsHarvest (days_content judge.now.sky.now.district (map rows_of_day judge.now.days.now) judge.now.sky.now.root) harvest.now.refuted harvest.now.leaves }
+    requires harvest { IsHarvest (days_content judge.now.sky.now.sun judge.now.sky.now.district (map rows_of_day judge.now.days.now) judge.now.sky.now.root) harvest.now.refuted harvest.now.leaves }
     requires day { IsDayIn (map rows_of_day judge.now.days.now) i day.now }
-    ensures writes { Writes (written form judge.now.sky.now.district judge.now.sky.now.root day.now) result
+    ensures writes { Writes (columns_written form judge.now.sky.now.sun judge.now.sky.now.district judge.now.sky.now.root day.now) result
         (K.faults out.old) (K.faults out.new) (K.held out.old) (K.held out.new) }
-    ensures count { IfOk result (λ count. count ≡ day_undecided (searched judge.now.sky.now.district judge.now.sky.now.root day.now)) }
+    ensures count { IfOk result (λ count. count ≡ day_undecided (searched judge.now.sky.now.sun judge.now.sky.now.district judge.now.sky.now.root day.now)) }
     ensures few { IfOk result (λ count. count ≤ 7) }
 {
     let Ok(date) = date_of(alloc, day) else {

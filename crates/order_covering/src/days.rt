@@ -2,16 +2,17 @@
 ghost use Rattle.std.specs.Prelude.{◌≡◌, ◌*◌, ◌≤◌, flat_map, length, map, IfOk};
 ghost use Rattle.days_sky.specs.Days.{days_content, rows_of_day};
 ghost use Rattle.order_covering.specs.Covering.{covering_of};
-ghost use Rattle.order_covering.specs.Made.{rows_of, written};
+ghost use Rattle.order_covering.specs.Made.{IsDayIn, rows_of, written};
 ghost use Rattle.order_reader.specs.Asked.{asked_of};
 ghost use Rattle.order_table.specs.Made.{searched};
-ghost use Rattle.order_table.specs.Table.{days_undecided};
+ghost use Rattle.order_table.specs.Table.{day_undecided, days_undecided};
 ghost use Rattle.order_table.specs.Trees.{undecided};
 ghost use Rattle.outcome.specs.Writing.{Writes};
 ghost use Rattle.steal_pool.specs.Harvests.{IsHarvest};
 
-use crate::day::write_day;
+use crate::day::write_columns;
 use crate::form::Form;
+use crate::night::write_night;
 use cell_judge::Sky;
 use days_sky::DaysSky;
 use no_memory::NoMemory;
@@ -38,26 +39,70 @@ fn days_of_sky(alloc: Global, days: &[Day]) -> Result<Vec<days_sky::Day>, NoMemo
     Ok(made)
 }
 
-/// Writes the lines of days from their search; answers how many of their entries are undecided.
-fn write_found<K: Sink>(
+/// Writes the lines of day `i` from the search of several days, and those of its night; answers how many of its columns'
+/// entries are undecided.
+fn write_day<R: Threads + Wait + Sync, K: Sink, G: Gate + Sync>(
+    rt: &R,
     alloc: Global,
     judge: &DaysSky<'_>,
     harvest: &Harvest,
-    days: &[Day],
+    sky: &Sky,
+    i: usize,
+    day: &Day,
+    workers: u32,
     form: Form,
+    gate: &G,
     out: &mut K,
 ) -> Result<u32, Stop>
-    requires harvest { IsHarvest (days_content judge.now.sky.now.district (map rows_of_day judge.now.days.now) judge.now.sky.now.root) harvest.now.refuted harvest.now.leaves }
-    requires days { map rows_of_day judge.now.days.now ≡ map rows_of days.now }
-    requires few { length days.now ≤ 366 }
-    ensures writes { Writes (flat_map (written form judge.now.sky.now.district judge.now.sky.now.root) days.now) result
+    requires harvest { IsHarvest (days_content judge.now.sky.now.sun judge.now.sky.now.district (map rows_of_day judge.now.days.now) judge.now.sky.now.root) harvest.now.refuted harvest.now.leaves }
+    requires own { judge.now.sky.now ≡ sky.now }
+    requires day { IsDayIn (map rows_of_day judge.now.days.now) i day.now }
+    requires some { 1 ≤ workers }
+    requires few { workers ≤ 16 }
+    ensures writes { Writes (written form sky.now.sun sky.now.district sky.now.root day.now) result
         (K.faults out.old) (K.faults out.new) (K.held out.old) (K.held out.new) }
-    ensures count { IfOk result (λ count. count ≡ days_undecided (map (searched judge.now.sky.now.district judge.now.sky.now.root) days.now)) }
+    ensures count { IfOk result (λ count. count ≡ day_undecided (searched sky.now.sun sky.now.district sky.now.root day.now)) }
+    ensures few { IfOk result (λ count. count ≤ 7) }
+{
+    let undecided = match write_columns(alloc, judge, harvest, i, day, form, out) {
+        Ok(undecided) => undecided,
+        Err(stop) => return Err(stop),
+    };
+    match write_night(rt, alloc, sky, day, workers, form, gate, out) {
+        Ok(()) => Ok(undecided),
+        Err(stop) => Err(stop),
+    }
+}
+
+/// Writes the lines of days from their search; answers how many of their columns' entries are undecided.
+fn write_found<R: Threads + Wait + Sync, K: Sink, G: Gate + Sync>(
+    rt: &R,
+    alloc: Global,
+    judge: &DaysSky<'_>,
+    harvest: &Harvest,
+    sky: &Sky,
+    days: &[Day],
+    workers: u32,
+    form: Form,
+    gate: &G,
+    out: &mut K,
+) -> Result<u32, Stop>
+    requires harvest { IsHarvest (days_content judge.now.sky.now.sun judge.now.sky.now.district (map rows_of_day judge.now.days.now) judge.now.sky.now.root) harvest.now.refuted harvest.now.leaves }
+    requires own { judge.now.sky.now ≡ sky.now }
+    requires days { map rows_of_day judge.now.days.now ≡ map rows_of days.now }
+    requires short { length days.now ≤ 366 }
+    requires some { 1 ≤ workers }
+    requires few { workers ≤ 16 }
+    ensures writes { Writes (flat_map (written form sky.now.sun sky.now.district sky.now.root) days.now) result
+        (K.faults out.old) (K.faults out.new) (K.held out.old) (K.held out.new) }
+    ensures count { IfOk result (λ count. count ≡ days_undecided (map (searched sky.now.sun sky.now.district sky.now.root) days.now)) }
     ensures few { IfOk result (λ count. count ≤ 7 * length days.now) }
 {
     let mut undecided = 0;
     for (i, day) in days.iter().enumerate() {
-        match write_day(alloc, judge, harvest, i, day, form, out) {
+        match write_day(
+            rt, alloc, judge, harvest, sky, i, day, workers, form, gate, out,
+        ) {
             Ok(count) => undecided += count,
             Err(stop) => return Err(stop),
         }
@@ -79,9 +124,9 @@ fn write_some<R: Threads + Wait + Sync, K: Sink, G: Gate + Sync>(
     requires short { length days.now ≤ 366 }
     requires some { 1 ≤ workers }
     requires few { workers ≤ 16 }
-    ensures writes { Writes (flat_map (written form sky.now.district sky.now.root) days.now) result
+    ensures writes { Writes (flat_map (written form sky.now.sun sky.now.district sky.now.root) days.now) result
         (K.faults out.old) (K.faults out.new) (K.held out.old) (K.held out.new) }
-    ensures count { IfOk result (λ count. count ≡ days_undecided (map (searched sky.now.district sky.now.root) days.now)) }
+    ensures count { IfOk result (λ count. count ≡ days_undecided (map (searched sky.now.sun sky.now.district sky.now.root) days.now)) }
     ensures few { IfOk result (λ count. count ≤ 7 * length days.now) }
 {
     let Ok(made) = days_of_sky(alloc, days) else {
@@ -91,7 +136,9 @@ fn write_some<R: Threads + Wait + Sync, K: Sink, G: Gate + Sync>(
     let Ok(harvest) = search(rt, alloc, &judge, workers, gate) else {
         return Err(Stop::NoMemory);
     };
-    write_found(alloc, &judge, &harvest, days, form, out)
+    write_found(
+        rt, alloc, &judge, &harvest, sky, days, workers, form, gate, out,
+    )
 }
 
 /// Searches all days, some at a time, and writes their lines; answers how many of their entries are undecided.
@@ -108,9 +155,9 @@ fn write_days<R: Threads + Wait + Sync, K: Sink, G: Gate + Sync>(
     requires short { length days.now ≤ 366 }
     requires some { 1 ≤ workers }
     requires few { workers ≤ 16 }
-    ensures writes { Writes (flat_map (written form sky.now.district sky.now.root) days.now) result
+    ensures writes { Writes (flat_map (written form sky.now.sun sky.now.district sky.now.root) days.now) result
         (K.faults out.old) (K.faults out.new) (K.held out.old) (K.held out.new) }
-    ensures count { IfOk result (λ count. count ≡ days_undecided (map (searched sky.now.district sky.now.root) days.now)) }
+    ensures count { IfOk result (λ count. count ≡ days_undecided (map (searched sky.now.sun sky.now.district sky.now.root) days.now)) }
 {
     let mut undecided = 0;
     let mut at = 0;

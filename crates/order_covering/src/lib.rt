@@ -7,7 +7,9 @@ mod day;
 mod days;
 mod form;
 mod line;
+mod night;
 
 pub use date::date_of;
 pub use days::write_covering;
 pub use form::Form;
+pub use night::sun_word;

@@ -1,7 +1,8 @@
 -- What lines show, one after another.
-use Rattle.std.proofs.Common.{◌≡◌, ℕ, suc, ◌+◌, ◌*◌, ◌<◌, List, [], ◌∷◌, ◌++◌, length, map, take, drop, set, Result, Ok, Err, refl, sym, ap, ◌∙◌, subst, append_assoc, append-nil, arith}
-use Rattle.std.specs.Prelude.{zip}
+use Rattle.std.proofs.Common.{◌≡◌, ℕ, suc, ◌+◌, ◌<◌, ◌≤◌, List, [], ◌∷◌, ◌++◌, length, map, take, drop, set, Option, None, Some, ℤ, Result, Ok, Err, refl, sym, ap, ◌∙◌, subst, append_assoc, append-nil, arith}
+use Rattle.std.specs.Prelude.{IfSome, sum_by, zip}
 use Rattle.std.proofs.lemmas.List.{drop_more, take_all, take_more_set}
+use Rattle.std.proofs.lemmas.List.Sums.{sum_by-cons}
 use Rattle.cell_split.specs.declared.cell.Cell.{Cell}
 use Rattle.cell_split.specs.declared.verdict.Entry.{Entry}
 use Rattle.cell_split.proofs.Every.{Every}
@@ -10,14 +11,14 @@ use Rattle.command_input.specs.Lines.{behind_line, first_line}
 use Rattle.covering_check.specs.declared.fault.CoverFault.{CoverFault}
 use Rattle.method_table.specs.Row.{Row}
 use Rattle.order_covering.proofs.CoveringLemmas.{column_at}
-use Rattle.order_table.specs.Days.{DayRows}
-use Rattle.order_table.specs.Table.{DayTable, day_found, rows_in}
-use Rattle.order_table.specs.Trees.{columns}
+use Rattle.order_table.specs.Days.{DayRows, NightRows}
+use Rattle.order_table.specs.Table.{DayTable, day_found, night_found, night_rows_in, rows_in}
+use Rattle.order_table.specs.Trees.{columns, night_columns}
 use Rattle.order_table.proofs.TextLemmas.{rows_of_zip}
 use Rattle.region.specs.Rings.{Polygon}
-use Rattle.year_table.specs.declared.head.SunChoice.{SunChoice}
+use Rattle.sun_choice.specs.declared.choice.SunChoice.{SunChoice}
 use Rattle.shown_table.specs.declared.bad.BadLine.{BadLine}
-use Rattle.shown_table.specs.Shown.{Shows, day_shown, day_then, days_shown, entries_shown, entry_then, shown_at, with_days, with_entries}
+use Rattle.shown_table.specs.Shown.{Shows, ShowsDay, ShowsNight, columns_shown, columns_then, day_shown, day_then, days_shown, entries_shown, entry_then, lines_by, lines_of, night_shown, shown_at, some_night, sun_shown_at, with_columns, with_days, with_entries}
 
 -- ---- answers
 
@@ -55,17 +56,17 @@ is_first (Err fault) number rest es text h = absurd (ok_no_err _ _ (es, text) (r
 
 -- what every shown entry keeps
 pub each_shown : (P : Row → Entry → Type 0) (rows : List Row) (shows : ℕ → List ℕ → Result Entry CoverFault) →
-    ((k : ℕ) → k < 7 → (line : List ℕ) (e : Entry) → shows k line ≡ Ok e → P (row_at rows k) e) →
-    (ks : List ℕ) → Every (λ k. k < 7) ks → (number : ℕ) (text : List ℕ) (es : List Entry) (rest : List ℕ) →
+    (n : ℕ) → ((k : ℕ) → k < n → (line : List ℕ) (e : Entry) → shows k line ≡ Ok e → P (row_at rows k) e) →
+    (ks : List ℕ) → Every (λ k. k < n) ks → (number : ℕ) (text : List ℕ) (es : List Entry) (rest : List ℕ) →
     entries_shown shows ks number text ≡ Ok (es, rest) → Every (λ (x : Row × Entry). P x.0 x.1) (zip (map (row_at rows) ks) es)
-each_shown P rows shows f [] few number text es rest h = none es
+each_shown P rows shows n f [] few number text es rest h = none es
   where
     none : (fs : List Entry) → Every (λ (x : Row × Entry). P x.0 x.1) (zip [] fs)
     none fs = tt
-each_shown P rows shows f (k ∷ ks) few number text es rest h =
+each_shown P rows shows n f (k ∷ ks) few number text es rest h =
     let is = is_first (shows k (first_line text)) number (entries_shown shows ks (number + 1) (behind_line text)) es rest h in
     subst (λ fs. Every (λ (x : Row × Entry). P x.0 x.1) (zip (map (row_at rows) (k ∷ ks)) fs)) (sym is.all)
-    (f k few.0 (first_line text) is.entry is.here, each_shown P rows shows f ks few.1 (number + 1) (behind_line text) is.others rest is.behind)
+    (f k few.0 (first_line text) is.entry is.here, each_shown P rows shows n f ks few.1 (number + 1) (behind_line text) is.others rest is.behind)
 
 -- there is one for each column
 pub shown_count : (shows : ℕ → List ℕ → Result Entry CoverFault) (ks : List ℕ) (number : ℕ) (text : List ℕ) (es : List Entry) (rest : List ℕ) →
@@ -79,9 +80,10 @@ shown_count shows (k ∷ ks) number text es rest h =
 
 -- ---- days
 
--- a day of seven rows
-abbrev pub IsWeekly : DayRows → Type 0
-IsWeekly day = length day.rows ≡ 7
+-- a day of seven rows, and of two for its night
+pub record IsWeekly (day : DayRows) : Type 0 where
+  pub seven : length day.rows ≡ 7
+  pub two : IfSome day.night (λ night. length night.rows ≡ 2)
 
 seven_rows : (rows : List Row) → length rows ≡ 7 → map (row_at rows) columns ≡ rows
 seven_rows [] h = absurd (omega (arith, h))
@@ -97,59 +99,166 @@ seven_rows (a ∷ b ∷ c ∷ d ∷ e ∷ f ∷ g ∷ i ∷ rest) h = absurd (om
 below_seven : Every (λ k. k < 7) columns
 below_seven = (omega arith, (omega arith, (omega arith, (omega arith, (omega arith, (omega arith, (omega arith, tt)))))))
 
--- what every entry of a day that is shown keeps
-pub each_of_day : (P : Row → Entry → Type 0) (sun : SunChoice) (polygons : List Polygon) (root : Cell) (day : DayRows) → IsWeekly day →
+-- what every entry of the columns that are shown keeps
+pub each_of_columns : (P : Row → Entry → Type 0) (sun : SunChoice) (polygons : List Polygon) (root : Cell) (day : DayRows) → length day.rows ≡ 7 →
     ((k : ℕ) → k < 7 → (line : List ℕ) (e : Entry) → shown_at sun polygons root day k line ≡ Ok e → P (row_at day.rows k) e) →
-    (number : ℕ) (text : List ℕ) (es : List Entry) (rest : List ℕ) → day_shown sun polygons root day number text ≡ Ok (es, rest) →
-    Every (λ (x : Row × Entry). P x.0 x.1) (day_found day es).found
-unfolding day_shown
-each_of_day P sun polygons root day seven f number text es rest h =
+    (number : ℕ) (text : List ℕ) (es : List Entry) (rest : List ℕ) → columns_shown sun polygons root day number text ≡ Ok (es, rest) →
+    Every (λ (x : Row × Entry). P x.0 x.1) (zip day.rows es)
+unfolding columns_shown
+each_of_columns P sun polygons root day seven f number text es rest h =
     subst (λ rows. Every (λ (x : Row × Entry). P x.0 x.1) (zip rows es)) (seven_rows day.rows seven)
-    (each_shown P day.rows (shown_at sun polygons root day) f columns below_seven number text es rest h)
+    (each_shown P day.rows (shown_at sun polygons root day) 7 f columns below_seven number text es rest h)
 
--- it has seven entries
+-- there are seven
 pub seven_shown : (sun : SunChoice) (polygons : List Polygon) (root : Cell) (day : DayRows) (number : ℕ) (text : List ℕ) (es : List Entry) (rest : List ℕ) →
-    day_shown sun polygons root day number text ≡ Ok (es, rest) → length es ≡ 7
-unfolding day_shown
+    columns_shown sun polygons root day number text ≡ Ok (es, rest) → length es ≡ 7
+unfolding columns_shown
 seven_shown sun polygons root day number text es rest h = shown_count (shown_at sun polygons root day) columns number text es rest h
 
+-- ---- nights
+
+two_rows : (rows : List Row) → length rows ≡ 2 → map (row_at rows) night_columns ≡ rows
+two_rows [] h = absurd (omega (arith, h))
+two_rows (a ∷ []) h = absurd (omega (arith, h))
+two_rows (a ∷ b ∷ []) h = refl
+two_rows (a ∷ b ∷ c ∷ rest) h = absurd (omega (arith, h))
+
+-- what the entries of sunrise and sunset that are shown keep
+pub each_of_sun : (P : Row → Entry → Type 0) (rows : List Row) (shows : ℕ → List ℕ → Result Entry CoverFault) → length rows ≡ 2 →
+    ((k : ℕ) → k < 2 → (line : List ℕ) (e : Entry) → shows k line ≡ Ok e → P (row_at rows k) e) →
+    (number : ℕ) (text : List ℕ) (es : List Entry) (rest : List ℕ) → entries_shown shows night_columns number text ≡ Ok (es, rest) →
+    Every (λ (x : Row × Entry). P x.0 x.1) (zip rows es)
+each_of_sun P rows shows two f number text es rest h =
+    subst (λ rows. Every (λ (x : Row × Entry). P x.0 x.1) (zip rows es)) (two_rows rows two)
+    (each_shown P rows shows 2 f night_columns (omega arith, (omega arith, tt)) number text es rest h)
+
+-- the entries of a night, if it is there
+pub record IsSomeNight (shown : Shows) (ns : Option (List Entry)) (rest : List ℕ) : Type 0 where
+  pub entries : List Entry
+  pub some : ns ≡ Some entries
+  pub shows : shown ≡ Ok (entries, rest)
+
+pub is_some_night : (shown : Shows) (ns : Option (List Entry)) (rest : List ℕ) → some_night shown ≡ Ok (ns, rest) → IsSomeNight shown ns rest
+is_some_night (Ok x) ns rest h =
+    let same = ok_same _ _ (Some x.0, x.1) (ns, rest) h refl refl in
+    record {
+      entries = x.0;
+      some = sym (ap (λ (p : Option (List Entry) × List ℕ). p.0) same);
+      shows = ap (λ (t : List ℕ). Ok (x.0, t)) (ap (λ (p : Option (List Entry) × List ℕ). p.1) same);
+    }
+is_some_night (Err bad) ns rest h = absurd (ok_no_err _ _ (ns, rest) bad (sym h) refl refl)
+
+-- a night that is shown is for its rows
+night_rows_shown : (sun : SunChoice) (polygons : List Polygon) (root : Cell) (day : ℤ) (night : Option NightRows) → IfSome night (λ n. length n.rows ≡ 2) →
+    (number : ℕ) (text : List ℕ) (ns : Option (List Entry)) (rest : List ℕ) → night_shown sun polygons root day night number text ≡ Ok (ns, rest) →
+    night_rows_in (night_found night ns) ≡ night
+unfolding night_shown
+night_rows_shown sun polygons root day None two number text ns rest h = refl
+night_rows_shown sun polygons root day (Some night) two number text ns rest h =
+    let shows = sun_shown_at sun polygons root day night.rows in
+    let is = is_some_night (entries_shown shows night_columns number text) ns rest h in
+    let many = shown_count shows night_columns number text is.entries rest is.shows in
+    let rows = rows_of_zip night.rows is.entries (two ∙ sym many) in
+    ap (λ (o : Option (List Entry)). night_rows_in (night_found (Some night) o)) is.some
+    ∙ (λ i. Some (record { rule = night.rule; method = night.method; rows = rows i }))
+
+-- ---- a day, its columns and its night
+
+pub record IsDayShown (sun : SunChoice) (polygons : List Polygon) (root : Cell) (day : DayRows) (number : ℕ) (text : List ℕ)
+    (es : List Entry) (ns : Option (List Entry)) (rest : List ℕ) : Type 0 where
+  pub between : List ℕ
+  pub columns : columns_shown sun polygons root day number text ≡ Ok (es, between)
+  pub night : night_shown sun polygons root day.number day.night (number + 7) between ≡ Ok (ns, rest)
+
+with_columns_is : (entries : List Entry) (night : ShowsNight) (es : List Entry) (x : Option (List Entry) × List ℕ) →
+    with_columns entries night ≡ Ok (es, x) → (entries ≡ es) × (night ≡ Ok x)
+with_columns_is entries (Ok y) es x h =
+    let same = ok_same _ _ (entries, y) (es, x) h refl refl in
+    (ap (λ (p : List Entry × (Option (List Entry) × List ℕ)). p.0) same, ap Ok (ap (λ (p : List Entry × (Option (List Entry) × List ℕ)). p.1) same))
+with_columns_is entries (Err bad) es x h = absurd (ok_no_err _ _ (es, x) bad (sym h) refl refl)
+
+pub is_day_shown : (sun : SunChoice) (polygons : List Polygon) (root : Cell) (day : DayRows) (number : ℕ) (text : List ℕ) (es : List Entry)
+    (ns : Option (List Entry)) (rest : List ℕ) → day_shown sun polygons root day number text ≡ Ok (es, (ns, rest)) →
+    IsDayShown sun polygons root day number text es ns rest
+unfolding day_shown
+is_day_shown sun polygons root day number text es ns rest h =
+    by (columns_shown sun polygons root day number text) refl h
+  where
+    by : (s : Shows) → columns_shown sun polygons root day number text ≡ s →
+        columns_then s (night_shown sun polygons root day.number day.night (number + 7)) ≡ Ok (es, (ns, rest)) →
+        IsDayShown sun polygons root day number text es ns rest
+    by (Ok x) is h =
+        let both = with_columns_is x.0 (night_shown sun polygons root day.number day.night (number + 7) x.1) es (ns, rest) h in
+        record { between = x.1; columns = is ∙ ap (λ (e : List Entry). Ok (e, x.1)) both.0; night = both.1 }
+    by (Err bad) is h = absurd (ok_no_err _ _ (es, (ns, rest)) bad (sym h) refl refl)
+
+-- a day's columns and its night were shown
+pub day_is_whole : (sun : SunChoice) (polygons : List Polygon) (root : Cell) (day : DayRows) (number next : ℕ) (text between : List ℕ) (es : List Entry)
+    (ns : Option (List Entry)) (rest : List ℕ) → columns_shown sun polygons root day number text ≡ Ok (es, between) → next ≡ number + 7 →
+    night_shown sun polygons root day.number day.night next between ≡ Ok (ns, rest) → day_shown sun polygons root day number text ≡ Ok (es, (ns, rest))
+unfolding day_shown
+day_is_whole sun polygons root day number next text between es ns rest is is_next night =
+    let N = night_shown sun polygons root day.number day.night in
+    ap (λ (s : Shows). columns_then s (N (number + 7))) is
+    ∙ ap (λ (m : ℕ). with_columns es (N m between)) (sym is_next) ∙ ap (with_columns es) night
+
+-- one of its columns' lines is bad
+pub day_is_bad : (sun : SunChoice) (polygons : List Polygon) (root : Cell) (day : DayRows) (number : ℕ) (text : List ℕ) (bad : BadLine) →
+    columns_shown sun polygons root day number text ≡ Err bad → day_shown sun polygons root day number text ≡ Err bad
+unfolding day_shown
+day_is_bad sun polygons root day number text bad is =
+    ap (λ (s : Shows). columns_then s (night_shown sun polygons root day.number day.night (number + 7))) is
+
+-- or one of its night's
+pub night_is_bad : (sun : SunChoice) (polygons : List Polygon) (root : Cell) (day : DayRows) (number next : ℕ) (text between : List ℕ) (es : List Entry)
+    (bad : BadLine) → columns_shown sun polygons root day number text ≡ Ok (es, between) → next ≡ number + 7 →
+    night_shown sun polygons root day.number day.night next between ≡ Err bad → day_shown sun polygons root day number text ≡ Err bad
+unfolding day_shown
+night_is_bad sun polygons root day number next text between es bad is is_next night =
+    let N = night_shown sun polygons root day.number day.night in
+    ap (λ (s : Shows). columns_then s (N (number + 7))) is
+    ∙ ap (λ (m : ℕ). with_columns es (N m between)) (sym is_next) ∙ ap (with_columns es) night
+
 -- a day that is shown is for its rows
-pub rows_shown : (sun : SunChoice) (polygons : List Polygon) (root : Cell) (day : DayRows) → IsWeekly day → (number : ℕ) (text : List ℕ) (es : List Entry) (rest : List ℕ) →
-    day_shown sun polygons root day number text ≡ Ok (es, rest) → rows_in (day_found day es) ≡ day
-rows_shown sun polygons root day seven number text es rest h =
-    let many = seven_shown sun polygons root day number text es rest h in
+pub rows_shown : (sun : SunChoice) (polygons : List Polygon) (root : Cell) (day : DayRows) → IsWeekly day → (number : ℕ) (text : List ℕ) (es : List Entry)
+    (ns : Option (List Entry)) (rest : List ℕ) → day_shown sun polygons root day number text ≡ Ok (es, (ns, rest)) → rows_in (day_found day es ns) ≡ day
+rows_shown sun polygons root day weekly number text es ns rest h =
+    let is = is_day_shown sun polygons root day number text es ns rest h in
+    let seven = weekly.seven in
+    let many = seven_shown sun polygons root day number text es is.between is.columns in
     let rows = rows_of_zip day.rows es (omega (arith, seven, many)) in
-    λ i. record { number = day.number; rows = rows i }
+    let night = night_rows_shown sun polygons root day.number day.night weekly.two (number + 7) is.between ns rest is.night in
+    λ i. record { number = day.number; rows = rows i; night = night i }
 
 module _ (sun : SunChoice) (polygons : List Polygon) (root : Cell) where
   -- what every shown day keeps
   pub each_day : (P : DayTable → Type 0) (days : List DayRows) →
-      Every (λ day. (number : ℕ) (text : List ℕ) (es : List Entry) (rest : List ℕ) →
-      day_shown sun polygons root day number text ≡ Ok (es, rest) → P (day_found day es)) days →
+      Every (λ day. (number : ℕ) (text : List ℕ) (es : List Entry) (ns : Option (List Entry)) (rest : List ℕ) →
+      day_shown sun polygons root day number text ≡ Ok (es, (ns, rest)) → P (day_found day es ns)) days →
       (number : ℕ) (text : List ℕ) → Every P (days_shown sun polygons root days number text).days
   each_day P [] f number text = tt
-  each_day P (day ∷ days) f number text = by (day_shown sun polygons root day number text) refl (λ rest. each_day P days f.1 (number + 7) rest)
+  each_day P (day ∷ days) f number text = by (day_shown sun polygons root day number text) refl (λ rest. each_day P days f.1 (number + lines_of day) rest)
     where
-      by : (s : Shows) → day_shown sun polygons root day number text ≡ s →
-          ((rest : List ℕ) → Every P (days_shown sun polygons root days (number + 7) rest).days) →
-          Every P (day_then day s (days_shown sun polygons root days (number + 7))).days
-      by (Ok x) is others = (f.0 number text x.0 x.1 is, others x.1)
+      by : (s : ShowsDay) → day_shown sun polygons root day number text ≡ s →
+          ((rest : List ℕ) → Every P (days_shown sun polygons root days (number + lines_of day) rest).days) →
+          Every P (day_then day s (days_shown sun polygons root days (number + lines_of day))).days
+      by (Ok x) is others = (f.0 number text x.0 x.1.0 x.1.1 is, others x.1.1)
       by (Err bad) is others = tt
 
   -- the days that are shown are the first ones
   pub first_days : (days : List DayRows) → Every IsWeekly days → (number : ℕ) (text : List ℕ) →
       map rows_in (days_shown sun polygons root days number text).days ≡ take (length (days_shown sun polygons root days number text).days) days
   first_days [] each number text = refl
-  first_days (day ∷ days) each number text = by (day_shown sun polygons root day number text) refl (λ rest. first_days days each.1 (number + 7) rest)
+  first_days (day ∷ days) each number text = by (day_shown sun polygons root day number text) refl (λ rest. first_days days each.1 (number + lines_of day) rest)
     where
-      by : (s : Shows) → day_shown sun polygons root day number text ≡ s →
-          ((rest : List ℕ) → map rows_in (days_shown sun polygons root days (number + 7) rest).days
-          ≡ take (length (days_shown sun polygons root days (number + 7) rest).days) days) →
-          map rows_in (day_then day s (days_shown sun polygons root days (number + 7))).days
-          ≡ take (length (day_then day s (days_shown sun polygons root days (number + 7))).days) (day ∷ days)
+      by : (s : ShowsDay) → day_shown sun polygons root day number text ≡ s →
+          ((rest : List ℕ) → map rows_in (days_shown sun polygons root days (number + lines_of day) rest).days
+          ≡ take (length (days_shown sun polygons root days (number + lines_of day) rest).days) days) →
+          map rows_in (day_then day s (days_shown sun polygons root days (number + lines_of day))).days
+          ≡ take (length (day_then day s (days_shown sun polygons root days (number + lines_of day))).days) (day ∷ days)
       by (Ok x) is others =
-          ap (λ d. d ∷ map rows_in (days_shown sun polygons root days (number + 7) x.1).days)
-          (rows_shown sun polygons root day each.0 number text x.0 x.1 is) ∙ ap (λ ds. day ∷ ds) (others x.1)
+          ap (λ d. d ∷ map rows_in (days_shown sun polygons root days (number + lines_of day) x.1.1).days)
+          (rows_shown sun polygons root day each.0 number text x.0 x.1.0 x.1.1 is) ∙ ap (λ ds. day ∷ ds) (others x.1.1)
       by (Err bad) is others = refl
 
   -- and all where no line is bad
@@ -157,16 +266,16 @@ module _ (sun : SunChoice) (polygons : List Polygon) (root : Cell) where
       (days_shown sun polygons root days number text).end ≡ Ok rest → map rows_in (days_shown sun polygons root days number text).days ≡ days
   all_days [] each number text rest h = refl
   all_days (day ∷ days) each number text rest h =
-      by (day_shown sun polygons root day number text) refl (λ behind is. all_days days each.1 (number + 7) behind rest is) h
+      by (day_shown sun polygons root day number text) refl (λ behind is. all_days days each.1 (number + lines_of day) behind rest is) h
     where
-      by : (s : Shows) → day_shown sun polygons root day number text ≡ s →
-          ((behind : List ℕ) → (days_shown sun polygons root days (number + 7) behind).end ≡ Ok rest →
-          map rows_in (days_shown sun polygons root days (number + 7) behind).days ≡ days) →
-          (day_then day s (days_shown sun polygons root days (number + 7))).end ≡ Ok rest →
-          map rows_in (day_then day s (days_shown sun polygons root days (number + 7))).days ≡ day ∷ days
+      by : (s : ShowsDay) → day_shown sun polygons root day number text ≡ s →
+          ((behind : List ℕ) → (days_shown sun polygons root days (number + lines_of day) behind).end ≡ Ok rest →
+          map rows_in (days_shown sun polygons root days (number + lines_of day) behind).days ≡ days) →
+          (day_then day s (days_shown sun polygons root days (number + lines_of day))).end ≡ Ok rest →
+          map rows_in (day_then day s (days_shown sun polygons root days (number + lines_of day))).days ≡ day ∷ days
       by (Ok x) is others end =
-          ap (λ d. d ∷ map rows_in (days_shown sun polygons root days (number + 7) x.1).days)
-          (rows_shown sun polygons root day each.0 number text x.0 x.1 is) ∙ ap (λ ds. day ∷ ds) (others x.1 end)
+          ap (λ d. d ∷ map rows_in (days_shown sun polygons root days (number + lines_of day) x.1.1).days)
+          (rows_shown sun polygons root day each.0 number text x.0 x.1.0 x.1.1 is) ∙ ap (λ ds. day ∷ ds) (others x.1.1 end)
       by (Err bad) is others end = absurd (ok_no_err _ _ rest bad (sym end) refl refl)
 
 -- ---- entries so far
@@ -232,52 +341,74 @@ module _ (sun : SunChoice) (polygons : List Polygon) (root : Cell) (day : DayRow
   day_goes_on k number text e known inside so_far here =
       so_far_more (shown_at sun polygons root day) first start es k number text e known inside so_far here
 
-  pub day_is_whole : (k number : ℕ) (text : List ℕ) → k ≡ 7 → length es ≡ 7 → IsDaySoFar sun polygons root day first start es k number text →
-      day_shown sun polygons root day first start ≡ Ok (es, text)
-  unfolding IsDaySoFar day_shown
-  day_is_whole k number text end seven so_far = so_far_all (shown_at sun polygons root day) first start es k number text end seven so_far
+  pub columns_are_whole : (k number : ℕ) (text : List ℕ) → k ≡ 7 → length es ≡ 7 → IsDaySoFar sun polygons root day first start es k number text →
+      columns_shown sun polygons root day first start ≡ Ok (es, text)
+  unfolding IsDaySoFar columns_shown
+  columns_are_whole k number text end seven so_far = so_far_all (shown_at sun polygons root day) first start es k number text end seven so_far
 
-  pub day_is_bad : (k number : ℕ) (text : List ℕ) (bad : BadLine) → k < 7 → IsDaySoFar sun polygons root day first start es k number text → bad.number ≡ number →
-      shown_at sun polygons root day k (first_line text) ≡ Err bad.fault → day_shown sun polygons root day first start ≡ Err bad
-  unfolding IsDaySoFar day_shown
-  day_is_bad k number text bad known so_far is_number here =
+  pub columns_are_bad : (k number : ℕ) (text : List ℕ) (bad : BadLine) → k < 7 → IsDaySoFar sun polygons root day first start es k number text → bad.number ≡ number →
+      shown_at sun polygons root day k (first_line text) ≡ Err bad.fault → columns_shown sun polygons root day first start ≡ Err bad
+  unfolding IsDaySoFar columns_shown
+  columns_are_bad k number text bad known so_far is_number here =
       so_far_bad (shown_at sun polygons root day) first start es k number text bad known so_far is_number here
+
+-- ---- sunrise and sunset
+
+module _ (shows : ℕ → List ℕ → Result Entry CoverFault) (number : ℕ) (text : List ℕ) where
+  pub both_shown : (rise set : Entry) → shows 0 (first_line text) ≡ Ok rise → shows 1 (first_line (behind_line text)) ≡ Ok set →
+      entries_shown shows night_columns number text ≡ Ok (rise ∷ set ∷ [], behind_line (behind_line text))
+  both_shown rise set is_rise is_set = rw (is_rise, is_set) refl
+
+  pub rise_is_bad : (bad : BadLine) → bad.number ≡ number → shows 0 (first_line text) ≡ Err bad.fault → entries_shown shows night_columns number text ≡ Err bad
+  rise_is_bad bad is_number is_bad = rw is_bad (ap (λ (m : ℕ). Err (record { number = m; fault = bad.fault })) (sym is_number))
+
+  pub set_is_bad : (rise : Entry) (bad : BadLine) → shows 0 (first_line text) ≡ Ok rise → bad.number ≡ number + 1 →
+      shows 1 (first_line (behind_line text)) ≡ Err bad.fault → entries_shown shows night_columns number text ≡ Err bad
+  set_is_bad rise bad is_rise is_number is_bad = rw (is_rise, is_bad) (ap (λ (m : ℕ). Err (record { number = m; fault = bad.fault })) (sym is_number))
 
 -- ---- days so far
 
 -- one day alone
-pub one_shown : (sun : SunChoice) (polygons : List Polygon) (root : Cell) (day : DayRows) (number : ℕ) (text : List ℕ) (es : List Entry) (rest : List ℕ) →
-    day_shown sun polygons root day number text ≡ Ok (es, rest) →
-    days_shown sun polygons root (day ∷ []) number text ≡ record { days = day_found day es ∷ []; end = Ok rest }
-one_shown sun polygons root day number text es rest h = ap (λ s. day_then day s (days_shown sun polygons root [] (number + 7))) h
+pub one_shown : (sun : SunChoice) (polygons : List Polygon) (root : Cell) (day : DayRows) (number : ℕ) (text : List ℕ) (es : List Entry)
+    (ns : Option (List Entry)) (rest : List ℕ) → day_shown sun polygons root day number text ≡ Ok (es, (ns, rest)) →
+    days_shown sun polygons root (day ∷ []) number text ≡ record { days = day_found day es ns ∷ []; end = Ok rest }
+one_shown sun polygons root day number text es ns rest h = ap (λ s. day_then day s (days_shown sun polygons root [] (number + lines_of day))) h
 
 pub one_bad : (sun : SunChoice) (polygons : List Polygon) (root : Cell) (day : DayRows) (number : ℕ) (text : List ℕ) (bad : BadLine) →
     day_shown sun polygons root day number text ≡ Err bad →
     days_shown sun polygons root (day ∷ []) number text ≡ record { days = []; end = Err bad }
-one_bad sun polygons root day number text bad h = ap (λ s. day_then day s (days_shown sun polygons root [] (number + 7))) h
+one_bad sun polygons root day number text bad h = ap (λ s. day_then day s (days_shown sun polygons root [] (number + lines_of day))) h
+
+-- a day has seven lines or nine
+pub few_lines : (night : Option NightRows) → lines_by night ≤ 9
+few_lines None = omega arith
+few_lines (Some night) = omega arith
 
 module _ (sun : SunChoice) (polygons : List Polygon) (root : Cell) where
   -- days behind those that were shown
   pub shown_more : (before after : List DayRows) (number : ℕ) (text behind : List ℕ) → (days_shown sun polygons root before number text).end ≡ Ok behind →
       days_shown sun polygons root (before ++ after) number text
-      ≡ with_days (days_shown sun polygons root before number text).days (days_shown sun polygons root after (number + 7 * length before) behind)
+      ≡ with_days (days_shown sun polygons root before number text).days (days_shown sun polygons root after (number + sum_by lines_of before) behind)
   shown_more [] after number text behind h =
-      let same : number ≡ number + 7 * 0 = omega arith in
+      let same : number ≡ number + sum_by lines_of [] = omega arith in
       let here = ok_same _ _ text behind h refl refl in
-      ap (λ (m : ℕ). days_shown sun polygons root after m text) same ∙ ap (days_shown sun polygons root after (number + 7 * 0)) here
+      ap (λ (m : ℕ). days_shown sun polygons root after m text) same ∙ ap (days_shown sun polygons root after (number + sum_by lines_of [])) here
   shown_more (day ∷ before) after number text behind h =
-      by (day_shown sun polygons root day number text) (λ rest is. shown_more before after (number + 7) rest behind is) h
+      by (day_shown sun polygons root day number text) (λ rest is. shown_more before after (number + lines_of day) rest behind is) h
     where
-      by : (s : Shows) → ((rest : List ℕ) → (days_shown sun polygons root before (number + 7) rest).end ≡ Ok behind →
-          days_shown sun polygons root (before ++ after) (number + 7) rest
-          ≡ with_days (days_shown sun polygons root before (number + 7) rest).days (days_shown sun polygons root after ((number + 7) + 7 * length before) behind)) →
-          (day_then day s (days_shown sun polygons root before (number + 7))).end ≡ Ok behind →
-          day_then day s (days_shown sun polygons root (before ++ after) (number + 7))
-          ≡ with_days (day_then day s (days_shown sun polygons root before (number + 7))).days (days_shown sun polygons root after (number + 7 * length (day ∷ before)) behind)
+      by : (s : ShowsDay) → ((rest : List ℕ) → (days_shown sun polygons root before (number + lines_of day) rest).end ≡ Ok behind →
+          days_shown sun polygons root (before ++ after) (number + lines_of day) rest
+          ≡ with_days (days_shown sun polygons root before (number + lines_of day) rest).days
+          (days_shown sun polygons root after ((number + lines_of day) + sum_by lines_of before) behind)) →
+          (day_then day s (days_shown sun polygons root before (number + lines_of day))).end ≡ Ok behind →
+          day_then day s (days_shown sun polygons root (before ++ after) (number + lines_of day))
+          ≡ with_days (day_then day s (days_shown sun polygons root before (number + lines_of day))).days
+          (days_shown sun polygons root after (number + sum_by lines_of (day ∷ before)) behind)
       by (Ok x) others end =
-          let same : (number + 7) + 7 * length before ≡ number + 7 * length (day ∷ before) = omega arith in
-          ap (with_days (day_found day x.0 ∷ [])) (others x.1 end
-          ∙ ap (λ (m : ℕ). with_days (days_shown sun polygons root before (number + 7) x.1).days (days_shown sun polygons root after m behind)) same)
+          let more : sum_by lines_of (day ∷ before) ≡ lines_of day + sum_by lines_of before = sum_by-cons lines_of day before in
+          let same : (number + lines_of day) + sum_by lines_of before ≡ number + sum_by lines_of (day ∷ before) = omega (arith, more) in
+          ap (with_days (day_found day x.0 x.1.0 ∷ [])) (others x.1.1 end
+          ∙ ap (λ (m : ℕ). with_days (days_shown sun polygons root before (number + lines_of day) x.1.1).days (days_shown sun polygons root after m behind)) same)
       by (Err bad) others end = absurd (ok_no_err _ _ behind bad (sym end) refl refl)
 
   -- a day with a bad line is the last one
@@ -286,9 +417,9 @@ module _ (sun : SunChoice) (polygons : List Polygon) (root : Cell) where
       days_shown sun polygons root (day ∷ after) number text ≡ days_shown sun polygons root (day ∷ []) number text
   ends_at day after number text bad = by (day_shown sun polygons root day number text)
     where
-      by : (s : Shows) → (day_then day s (days_shown sun polygons root [] (number + 7))).end ≡ Err bad →
-          day_then day s (days_shown sun polygons root after (number + 7)) ≡ day_then day s (days_shown sun polygons root [] (number + 7))
-      by (Ok x) end = absurd (ok_no_err _ _ x.1 bad end refl refl)
+      by : (s : ShowsDay) → (day_then day s (days_shown sun polygons root [] (number + lines_of day))).end ≡ Err bad →
+          day_then day s (days_shown sun polygons root after (number + lines_of day)) ≡ day_then day s (days_shown sun polygons root [] (number + lines_of day))
+      by (Ok x) end = absurd (ok_no_err _ _ x.1.1 bad end refl refl)
       by (Err other) end = refl
 
   -- what is shown of a day comes before what is shown of those behind it
@@ -296,6 +427,7 @@ module _ (sun : SunChoice) (polygons : List Polygon) (root : Cell) where
       (more : List DayTable) × ((days_shown sun polygons root (day ∷ after) number text).days ≡ (days_shown sun polygons root (day ∷ []) number text).days ++ more)
   day_first day after number text = by (day_shown sun polygons root day number text)
     where
-      by : (s : Shows) → (more : List DayTable) × ((day_then day s (days_shown sun polygons root after (number + 7))).days ≡ (day_then day s (days_shown sun polygons root [] (number + 7))).days ++ more)
-      by (Ok x) = ((days_shown sun polygons root after (number + 7) x.1).days, refl)
+      by : (s : ShowsDay) → (more : List DayTable) × ((day_then day s (days_shown sun polygons root after (number + lines_of day))).days
+          ≡ (day_then day s (days_shown sun polygons root [] (number + lines_of day))).days ++ more)
+      by (Ok x) = ((days_shown sun polygons root after (number + lines_of day) x.1.1).days, refl)
       by (Err bad) = ([], refl)

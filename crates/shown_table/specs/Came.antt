@@ -1,5 +1,5 @@
 -- What came of showing days, as the code tells it.
-use Rattle.std.specs.Prelude.{◌≡◌, ◌≢◌, ◌⊎◌, ℕ, List, Some, None, Result, Ok, Err}
+use Rattle.std.specs.Prelude.{◌≡◌, ◌≢◌, ◌⊎◌, ℕ, List, Option, Some, None, Result, Ok, Err}
 use Rattle.cell_split.specs.declared.verdict.Entry.{Entry}
 use Rattle.covering_check.specs.declared.fault.CoverFault.{CoverFault}
 use Rattle.covering_check.specs.declared.fault.CoverFault.TheVariants.{NoMemory}
@@ -9,7 +9,7 @@ use Rattle.outcome.specs.declared.stop.Stop.TheVariants.{NoMemory as StopNoMemor
 use Rattle.shown_table.specs.declared.bad.BadLine.{BadLine}
 use Rattle.shown_table.specs.declared.bad.Shown.{Shown}
 use Rattle.shown_table.specs.declared.bad.Shown.TheVariants.{Bad, Whole}
-use Rattle.shown_table.specs.Shown.{ShownDays, ShownTable, Shows}
+use Rattle.shown_table.specs.Shown.{ShownDays, ShownTable, Shows, ShowsDay, ShowsNight}
 
 -- the entry that a line of this number shows, or that it is bad
 abbrev pub ShowsEntry : ℕ → Result Entry CoverFault → Result Entry BadLine → Type 0
@@ -20,6 +20,16 @@ ShowsEntry number shown (Err bad) = (bad.number ≡ number) × ((bad.fault ≡ N
 abbrev pub ShowsEntries : Shows → Result (List Entry) BadLine → List ℕ → Type 0
 ShowsEntries shown (Ok entries) behind = shown ≡ Ok (entries, behind)
 ShowsEntries shown (Err bad) behind = (bad.fault ≡ NoMemory) ⊎ (shown ≡ Err bad)
+
+-- the same of the lines of a night
+abbrev pub ShowsNightEntries : ShowsNight → Result (Option (List Entry)) BadLine → List ℕ → Type 0
+ShowsNightEntries shown (Ok entries) behind = shown ≡ Ok (entries, behind)
+ShowsNightEntries shown (Err bad) behind = (bad.fault ≡ NoMemory) ⊎ (shown ≡ Err bad)
+
+-- and of a day, the entries of its columns and those of its night
+abbrev pub ShowsDayEntries : ShowsDay → Result (List Entry × Option (List Entry)) BadLine → List ℕ → Type 0
+ShowsDayEntries shown (Ok x) behind = shown ≡ Ok (x.0, (x.1, behind))
+ShowsDayEntries shown (Err bad) behind = (bad.fault ≡ NoMemory) ⊎ (shown ≡ Err bad)
 
 -- all days were shown, with so many undecided entries and this text behind their lines, or the first bad line came
 abbrev pub ShowsDays : ShownDays → Result Shown Stop → List ℕ → Type 0

@@ -1,16 +1,16 @@
 // A day of a covering: its entries are read of its lines, and written as the table has them.
-ghost use Rattle.std.specs.Prelude.{◌≡◌, ◌+◌, ◌≤◌, ◌∷◌, [], None, All, IfOk, OnOk};
+ghost use Rattle.std.specs.Prelude.{◌≡◌, ◌+◌, ◌≤◌, ◌∷◌, [], None, All, IfOk, IfSome, OnOk};
 ghost use Rattle.order_table.specs.Made.{day_of};
 ghost use Rattle.order_table.specs.Printing.{IsPrintable};
 ghost use Rattle.order_table.specs.Table.{days_text};
 ghost use Rattle.outcome.specs.Writing.{Writes};
 ghost use Rattle.region.specs.Faults.{first_fault};
-ghost use Rattle.shown_table.specs.Came.{IfWhole, IsBad, ShowsDays, ShowsEntries};
-ghost use Rattle.shown_table.specs.Shown.{day_shown, days_shown};
-ghost use Rattle.year_table.specs.declared.head.SunChoice.TheVariants.{Usno};
+ghost use Rattle.shown_table.specs.Came.{IfWhole, IsBad, ShowsDayEntries, ShowsDays, ShowsEntries};
+ghost use Rattle.shown_table.specs.Shown.{columns_shown, day_shown, days_shown, lines_of};
 
 use crate::bad::{BadLine, Shown};
 use crate::lines::Lines;
+use crate::night::night_entries;
 use cell_judge::Sky;
 use cell_split::Entry;
 use covering_check::CoverFault;
@@ -20,8 +20,8 @@ use outcome::Stop;
 use source_sink::Sink;
 use std::alloc::Global;
 
-/// The entries that the next seven lines show of a day, to which the sky is turned.
-fn day_entries(
+/// The entries that the next seven lines show of a day's columns, to which the sky is turned.
+fn column_entries(
     alloc: Global,
     sky: &Sky,
     day: &Day,
@@ -29,7 +29,7 @@ fn day_entries(
 ) -> Result<[Entry; 7], BadLine>
     requires turned { sky.now.problems ≡ day.now.problems }
     requires number { lines.old.number ≤ 4088 }
-    ensures shows { ShowsEntries (day_shown Usno sky.now.district sky.now.root (day_of day.now) lines.old.number lines.old.text.now)
+    ensures shows { ShowsEntries (columns_shown sky.now.sun sky.now.district sky.now.root (day_of day.now) lines.old.number lines.old.text.now)
         result lines.new.text.now }
     ensures number { OnOk result (lines.new.number ≡ lines.old.number + 7) }
 {
@@ -46,7 +46,7 @@ fn day_entries(
     Ok(entries)
 }
 
-/// Turns the sky to a day, and gives the entries that the next seven lines show of it.
+/// Turns the sky to a day, and gives the entries that the next seven lines show of its columns.
 fn turned_entries(
     alloc: Global,
     sky: &mut Sky,
@@ -55,15 +55,44 @@ fn turned_entries(
 ) -> Result<[Entry; 7], BadLine>
     requires sound { first_fault sky.old.district ≡ None }
     requires number { lines.old.number ≤ 4088 }
-    ensures shows { ShowsEntries (day_shown Usno sky.old.district sky.old.root (day_of day.now) lines.old.number lines.old.text.now)
+    ensures shows { ShowsEntries (columns_shown sky.old.sun sky.old.district sky.old.root (day_of day.now) lines.old.number lines.old.text.now)
         result lines.new.text.now }
     ensures printable { IfOk result (All IsPrintable) }
     ensures number { OnOk result (lines.new.number ≡ lines.old.number + 7) }
+    ensures sun { sky.new.sun ≡ sky.old.sun }
     ensures district { sky.new.district ≡ sky.old.district }
     ensures root { sky.new.root ≡ sky.old.root }
 {
     sky.turn_to(day.problems);
-    day_entries(alloc, sky, day, lines)
+    column_entries(alloc, sky, day, lines)
+}
+
+/// The entries that the next lines show of a day: those of its columns, and those of its night where it has one.
+fn day_entries(
+    alloc: Global,
+    sky: &mut Sky,
+    day: &Day,
+    lines: &mut Lines<'_>,
+) -> Result<([Entry; 7], Option<[Entry; 2]>), BadLine>
+    requires sound { first_fault sky.old.district ≡ None }
+    requires number { lines.old.number ≤ 4080 }
+    ensures shows { ShowsDayEntries (day_shown sky.old.sun sky.old.district sky.old.root (day_of day.now) lines.old.number lines.old.text.now)
+        result lines.new.text.now }
+    ensures printable { IfOk result (λ found. All IsPrintable found.0) }
+    ensures night_printable { IfOk result (λ found. IfSome found.1 (All IsPrintable)) }
+    ensures number { OnOk result (lines.new.number ≡ lines.old.number + lines_of (day_of day.now)) }
+    ensures sun { sky.new.sun ≡ sky.old.sun }
+    ensures district { sky.new.district ≡ sky.old.district }
+    ensures root { sky.new.root ≡ sky.old.root }
+{
+    let entries = match turned_entries(alloc, sky, day, lines) {
+        Ok(entries) => entries,
+        Err(bad) => return Err(bad),
+    };
+    match night_entries(alloc, sky, day, lines) {
+        Ok(night_entries) => Ok((entries, night_entries)),
+        Err(bad) => Err(bad),
+    }
 }
 
 /// A bad line, or want of memory.
@@ -76,7 +105,7 @@ fn ended(bad: BadLine) -> Result<Shown, Stop>
     }
 }
 
-/// Shows a day of the next seven lines and writes its lines of the table.
+/// Shows a day of the next lines and writes its lines of the table.
 pub(crate) fn show_day<K: Sink>(
     alloc: Global,
     sky: &mut Sky,
@@ -85,21 +114,22 @@ pub(crate) fn show_day<K: Sink>(
     out: &mut K,
 ) -> Result<Shown, Stop>
     requires sound { first_fault sky.old.district ≡ None }
-    requires number { lines.old.number ≤ 4088 }
-    ensures shows { ShowsDays (days_shown Usno sky.old.district sky.old.root (day_of day.now ∷ []) lines.old.number lines.old.text.now)
+    requires number { lines.old.number ≤ 4080 }
+    ensures shows { ShowsDays (days_shown sky.old.sun sky.old.district sky.old.root (day_of day.now ∷ []) lines.old.number lines.old.text.now)
         result lines.new.text.now }
-    ensures writes { Writes (days_text (days_shown Usno sky.old.district sky.old.root (day_of day.now ∷ []) lines.old.number lines.old.text.now).days) result
+    ensures writes { Writes (days_text (days_shown sky.old.sun sky.old.district sky.old.root (day_of day.now ∷ []) lines.old.number lines.old.text.now).days) result
         (K.faults out.old) (K.faults out.new) (K.held out.old) (K.held out.new) }
     ensures few { IfWhole (λ undecided. undecided ≤ 7) result }
-    ensures number { IfWhole (λ _. lines.new.number ≡ lines.old.number + 7) result }
+    ensures number { IfWhole (λ _. lines.new.number ≡ lines.old.number + lines_of (day_of day.now)) result }
+    ensures sun { sky.new.sun ≡ sky.old.sun }
     ensures district { sky.new.district ≡ sky.old.district }
     ensures root { sky.new.root ≡ sky.old.root }
 {
-    let entries = match turned_entries(alloc, sky, day, lines) {
-        Ok(entries) => entries,
+    let (entries, night_entries) = match day_entries(alloc, sky, day, lines) {
+        Ok(found) => found,
         Err(bad) => return ended(bad),
     };
-    match write_day(alloc, day, &entries, out) {
+    match write_day(alloc, day, &entries, &night_entries, out) {
         Ok(undecided) => Ok(Shown::Whole(undecided)),
         Err(stop) => Err(stop),
     }

@@ -8,6 +8,7 @@ mod day;
 mod ending;
 pub mod laws;
 mod lines;
+mod night;
 mod table;
 
 pub use bad::{BadLine, Shown};

@@ -1,5 +1,5 @@
 // The table that a covering shows, written day by day.
-ghost use Rattle.std.specs.Prelude.{◌≡◌, ◌+◌, ◌*◌, ◌≤◌, None, length};
+ghost use Rattle.std.specs.Prelude.{◌≡◌, ◌≤◌, None, length};
 ghost use Rattle.order_reader.specs.Asked.{asked_of};
 ghost use Rattle.order_table.specs.Table.{days_text};
 ghost use Rattle.outcome.specs.Writing.{Writes};
@@ -7,7 +7,7 @@ ghost use Rattle.region.specs.Faults.{first_fault};
 ghost use Rattle.shown_table.specs.Came.{IfWhole, ShowsDays, ShowsTable};
 ghost use Rattle.shown_table.specs.Right.{IsRightShown};
 ghost use Rattle.shown_table.specs.Shown.{shown_table, shown_text};
-ghost use Rattle.shown_table.specs.Made.{days_in, front_in};
+ghost use Rattle.shown_table.specs.Made.{days_in, front_in, number_behind};
 
 use crate::bad::Shown;
 use crate::day::show_day;
@@ -31,10 +31,10 @@ fn show_days<K: Sink>(
     requires sound { first_fault sky.old.district ≡ None }
     requires few { length days.now ≤ 366 }
     requires second { lines.old.number ≡ 2 }
-    ensures shows { ShowsDays (days_in sky.old.district sky.old.root days.now lines.old.text.now) result lines.new.text.now }
-    ensures writes { Writes (days_text (days_in sky.old.district sky.old.root days.now lines.old.text.now).days) result
+    ensures shows { ShowsDays (days_in sky.old.sun sky.old.district sky.old.root days.now lines.old.text.now) result lines.new.text.now }
+    ensures writes { Writes (days_text (days_in sky.old.sun sky.old.district sky.old.root days.now lines.old.text.now).days) result
         (K.faults out.old) (K.faults out.new) (K.held out.old) (K.held out.new) }
-    ensures number { IfWhole (λ _. lines.new.number ≡ 7 * length days.now + 2) result }
+    ensures number { IfWhole (λ _. lines.new.number ≡ number_behind days.now) result }
 {
     let mut undecided = 0;
     for day in days {
@@ -57,10 +57,10 @@ fn show_front<K: Sink>(
     requires sound { first_fault ready.old.sky.district ≡ None }
     requires few { length ready.old.days.items ≤ 366 }
     requires second { lines.old.number ≡ 2 }
-    ensures shows { ShowsDays (days_in ready.old.sky.district ready.old.sky.root ready.old.days.items lines.old.text.now) result lines.new.text.now }
+    ensures shows { ShowsDays (days_in ready.old.sky.sun ready.old.sky.district ready.old.sky.root ready.old.days.items lines.old.text.now) result lines.new.text.now }
     ensures writes { Writes (front_in ready.old lines.old.text.now) result
         (K.faults out.old) (K.faults out.new) (K.held out.old) (K.held out.new) }
-    ensures number { IfWhole (λ _. lines.new.number ≡ 7 * length ready.old.days.items + 2) result }
+    ensures number { IfWhole (λ _. lines.new.number ≡ number_behind ready.old.days.items) result }
 {
     match write_all(out, &ready.head) {
         Ok(()) => show_days(alloc, &mut ready.sky, &ready.days, lines, out),

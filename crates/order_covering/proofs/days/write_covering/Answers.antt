@@ -17,7 +17,7 @@ write_days-requires-clause-short g c =
 pub returns-in-Ok-write_all-clause-writes : goal.returns-in-Ok-write_all-clause-writes
 returns-in-Ok-write_all-clause-writes g c =
     let ready = c.in-Ok-prepare.ready in
-    let f = written c.args.form ready.sky.district ready.sky.root in
+    let f = written c.args.form ready.sky.sun ready.sky.district ready.sky.root in
     then_writes {X = ℕ} c.deref.result.now (flat_map f c.deref-in-Ok-write_all.result.now) (covering_of c.args.form (asked_of c.args.order))
     c.write_days.result _ _ _ _ _ _
     (covering_is c.args.form (asked_of c.args.order) ready c.deref.result.now c.in-Ok-prepare.ensures (c.deref.ensures.value ∙ c.in-Ok.ensures)
@@ -32,7 +32,7 @@ returns-in-Ok-write_all-clause-count g c =
 pub returns-clause-writes : goal.returns-clause-writes
 returns-clause-writes g c =
     let ready = c.in-Ok-prepare.ready in
-    cut_first {X = ℕ} c.deref.result.now (flat_map (written c.args.form ready.sky.district ready.sky.root) ready.days.items)
+    cut_first {X = ℕ} c.deref.result.now (flat_map (written c.args.form ready.sky.sun ready.sky.district ready.sky.root) ready.days.items)
     (covering_of c.args.form (asked_of c.args.order)) c.deref.result.now _ _ _ _ _
     (covering_is c.args.form (asked_of c.args.order) ready c.deref.result.now c.in-Ok-prepare.ensures (c.deref.ensures.value ∙ c.in-Ok.ensures))
     refl refl c.in-Err.ensures.later c.in-Err.ensures.failed c.in-Err.ensures.part

@@ -10,10 +10,10 @@ use Rattle.order_covering.proofs.days.write_days.Given as goal
 abbrev pub invariant-loop-at : goal.invariant-loop-at
 invariant-loop-at g l = record {
   inside : l.at ≤ length l.days;
-  count : l.undecided ≡ days_undecided (map (searched l.sky.district l.sky.root) (take l.at l.days));
+  count : l.undecided ≡ days_undecided (map (searched l.sky.sun l.sky.district l.sky.root) (take l.at l.days));
   few : l.undecided ≤ 7 * l.at;
   later : g.K.Sink.faults l.fn.out ≤ g.K.Sink.faults l.out;
-  written : Adds (g.K.Sink.held l.fn.out) (g.K.Sink.held l.out) (flat_map (written l.form l.sky.district l.sky.root) (take l.at l.days));
+  written : Adds (g.K.Sink.held l.fn.out) (g.K.Sink.held l.out) (flat_map (written l.form l.sky.sun l.sky.district l.sky.root) (take l.at l.days));
 }
 
 abbrev pub decreases-loop-at : goal.decreases-loop-at

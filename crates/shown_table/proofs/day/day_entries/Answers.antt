@@ -1,51 +1,49 @@
-use Rattle.std.proofs.Common.{◌+◌, ◌<◌, ◌∙◌, ℕ, List, arith, inl, inr, refl, subst, sym, set}
-use Rattle.std.proofs.lemmas.List.{length-set}
+use Rattle.std.proofs.Common.{Err, List, Ok, inl, inr}
+use Rattle.cell_split.specs.declared.cell.Cell.{Cell}
+use Rattle.region.specs.Rings.{Polygon}
+use Rattle.sun_choice.specs.declared.choice.SunChoice.{SunChoice}
 use Rattle.order_table.specs.Made.{day_of}
-use Rattle.year_table.specs.declared.head.SunChoice.TheVariants.{Usno}
-use Rattle.shown_table.proofs.ShowingLemmas.{IsDaySoFar, day_begins, day_goes_on, day_is_bad, day_is_whole}
+use Rattle.shown_table.specs.Came.{ShowsNightEntries}
+use Rattle.shown_table.specs.Shown.{night_shown}
+use Rattle.shown_table.proofs.DayLemmas.{over}
+use Rattle.shown_table.proofs.ShowingLemmas.{day_is_bad, day_is_whole, night_is_bad}
 use Rattle.shown_table.proofs.day.day_entries.Goals as goal
-
-pub loop-k-init : goal.loop-k-init
-loop-k-init c =
-    let sky = c.args.sky.now in
-    record {
-      number = omega arith;
-      seven = refl;
-      so_far = day_begins Usno sky.district sky.root (day_of c.args.day.now) c.args.lines.now.number c.args.lines.now.text.now _;
-    }
 
 pub returns-in-Err-clause-shows : goal.returns-in-Err-clause-shows
 returns-in-Err-clause-shows c =
     let sky = c.args.sky.now in
-    let known : c.loop-k.k < 7 = omega arith in
-    elim c.in-Err.ensures.shows.1 [
+    elim c.in-Err.ensures.shows [
       | inl memory ↦ inl memory
       | inr is ↦
-          inr (day_is_bad Usno sky.district sky.root (day_of c.args.day.now) c.args.lines.now.number c.args.lines.now.text.now c.loop-k.entries c.loop-k.k
-          c.loop-k.lines.number c.loop-k.lines.text.now c.in-Err.bad known c.loop-k.invariant.so_far c.in-Err.ensures.shows.0 is)
+          inr (day_is_bad sky.sun sky.district sky.root (day_of c.args.day.now) c.args.lines.now.number c.args.lines.now.text.now c.in-Err.bad is)
     ]
 
-pub loop-k-preserved : goal.loop-k-preserved
-loop-k-preserved c =
+pub returns-in-Ok-night_entries-clause-shows : goal.returns-in-Ok-night_entries-clause-shows
+returns-in-Ok-night_entries-clause-shows c =
     let sky = c.args.sky.now in
-    let k = c.loop-k.k in
-    let seven = c.loop-k.invariant.seven in
-    let known : k < 7 = omega arith in
-    let entry = c.in-Ok-next_entry.entry in
-    let here = c.in-Ok-next_entry.ensures in
-    let P = λ (n : ℕ) (t : List ℕ). IsDaySoFar Usno sky.district sky.root (day_of c.args.day.now) c.args.lines.now.number c.args.lines.now.text.now
-    (set c.loop-k.entries k entry) (k + 1) n t in
-    record {
-      number = omega (arith, here.number, c.loop-k.invariant.number);
-      seven = length-set c.loop-k.entries k entry ∙ seven;
-      so_far = subst (λ (n : ℕ). P n c.next_entry.new.self.text.now) (sym here.number)
-          (subst (λ (t : List ℕ). P (c.loop-k.lines.number + 1) t) (sym here.text)
-          (day_goes_on Usno sky.district sky.root (day_of c.args.day.now) c.args.lines.now.number c.args.lines.now.text.now c.loop-k.entries k
-          c.loop-k.lines.number c.loop-k.lines.text.now entry known (omega (arith, known, seven)) c.loop-k.invariant.so_far here.shows));
-    }
+    let turned = c.turned_entries.new.sky in
+    let lines = c.turned_entries.new.lines in
+    let day = day_of c.args.day.now in
+    let night = over (λ (s : SunChoice) (p : List Polygon) (r : Cell). ShowsNightEntries
+    (night_shown s p r day.number day.night lines.number lines.text.now) (Ok c.in-Ok-night_entries.night_entries) c.night_entries.new.lines.text.now)
+    turned.sun sky.sun turned.district sky.district turned.root sky.root c.in-Ok.ensures.sun c.in-Ok.ensures.district c.in-Ok.ensures.root
+    c.in-Ok-night_entries.ensures.shows in
+    day_is_whole sky.sun sky.district sky.root day c.args.lines.now.number lines.number c.args.lines.now.text.now lines.text.now c.in-Ok.entries
+    c.in-Ok-night_entries.night_entries c.night_entries.new.lines.text.now c.in-Ok.ensures.shows c.in-Ok.ensures.number night
 
-pub returns-clause-shows : goal.returns-clause-shows
-returns-clause-shows c =
+pub returns-in-Err-night_entries-clause-shows : goal.returns-in-Err-night_entries-clause-shows
+returns-in-Err-night_entries-clause-shows c =
     let sky = c.args.sky.now in
-    day_is_whole Usno sky.district sky.root (day_of c.args.day.now) c.args.lines.now.number c.args.lines.now.text.now c.loop-k.entries c.loop-k.k
-    c.loop-k.lines.number c.loop-k.lines.text.now (omega arith) c.loop-k.invariant.seven c.loop-k.invariant.so_far
+    let turned = c.turned_entries.new.sky in
+    let lines = c.turned_entries.new.lines in
+    let day = day_of c.args.day.now in
+    let night = over (λ (s : SunChoice) (p : List Polygon) (r : Cell). ShowsNightEntries
+    (night_shown s p r day.number day.night lines.number lines.text.now) (Err c.in-Err-night_entries.bad) c.night_entries.new.lines.text.now)
+    turned.sun sky.sun turned.district sky.district turned.root sky.root c.in-Ok.ensures.sun c.in-Ok.ensures.district c.in-Ok.ensures.root
+    c.in-Err-night_entries.ensures.shows in
+    elim night [
+      | inl memory ↦ inl memory
+      | inr is ↦
+          inr (night_is_bad sky.sun sky.district sky.root day c.args.lines.now.number lines.number c.args.lines.now.text.now lines.text.now c.in-Ok.entries
+          c.in-Err-night_entries.bad c.in-Ok.ensures.shows c.in-Ok.ensures.number is)
+    ]

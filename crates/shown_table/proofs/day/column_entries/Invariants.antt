@@ -1,13 +1,12 @@
 use Rattle.std.proofs.Common.{◌≡◌, ◌+◌, length}
 use Rattle.order_table.specs.Made.{day_of}
-use Rattle.year_table.specs.declared.head.SunChoice.TheVariants.{Usno}
 use Rattle.shown_table.proofs.ShowingLemmas.{IsDaySoFar}
-use Rattle.shown_table.proofs.day.day_entries.Given as goal
+use Rattle.shown_table.proofs.day.column_entries.Given as goal
 
 -- the entries of the columns so far are those that their lines show
 abbrev pub invariant-loop-k : goal.invariant-loop-k
 invariant-loop-k l = record {
   number : l.lines.number ≡ l.fn.lines.number + l.k;
   seven : length l.entries ≡ 7;
-  so_far : IsDaySoFar Usno l.sky.district l.sky.root (day_of l.day) l.fn.lines.number l.fn.lines.text.now l.entries l.k l.lines.number l.lines.text.now;
+  so_far : IsDaySoFar l.sky.sun l.sky.district l.sky.root (day_of l.day) l.fn.lines.number l.fn.lines.text.now l.entries l.k l.lines.number l.lines.text.now;
 }
