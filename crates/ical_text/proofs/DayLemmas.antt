@@ -15,7 +15,7 @@ fits_if : (a b : ℕ) (t : Bool) → nat_le a b ≡ t → cond t (a ≤ b) (b < 
 fits_if a b true e = grind (arith, nat_tests)
 fits_if a b false e = grind (arith, nat_tests)
 
-days_of_years_suc : (n : ℕ) → days_of_years (suc n) ≡ days_of_years n + days_in_year (pos n -ℤ pos 10000)
+pub days_of_years_suc : (n : ℕ) → days_of_years (suc n) ≡ days_of_years n + days_in_year (pos n -ℤ pos 10000)
 unfolding days_of_years
 days_of_years_suc n = refl
 
@@ -23,7 +23,7 @@ days_of_years_zero : days_of_years 0 ≡ 0
 unfolding days_of_years
 days_of_years_zero = refl
 
-more_years : (n k : ℕ) → days_of_years n ≤ days_of_years (k + n)
+pub more_years : (n k : ℕ) → days_of_years n ≤ days_of_years (k + n)
 more_years n zero = rw zero-add (omega arith)
 more_years n (suc k) =
     let step = days_of_years_suc (k + n) in
@@ -92,7 +92,7 @@ years day = years_within 20000 (unsigned_abs (day +ℤ pos 4371953))
 abbrev all_days : ℤ → ℕ
 all_days day = unsigned_abs (day +ℤ pos 4371953)
 
-first_days : (y : ℤ) (n : ℕ) → y +ℤ pos 10000 ≡ pos n → day_count y 1 1 ≡ days_of_years n
+pub first_days : (y : ℤ) (n : ℕ) → y +ℤ pos 10000 ≡ pos n → day_count y 1 1 ≡ days_of_years n
 unfolding day_count
 first_days y n e = rw e (omega (arith, days_of_months-zero y))
 

@@ -9,3 +9,4 @@ pub mod MomentLemmas
 pub mod PropertyLemmas
 pub mod ReadingLemmas
 pub mod TableLemmas
+pub mod YearLemmas

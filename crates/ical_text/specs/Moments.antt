@@ -1,9 +1,10 @@
 -- Minutes since 2000-01-01 12:00 Universal Time, as calendars write them: YYYYMMDDTHHMM00Z.
-use Rattle.std.specs.Prelude.{ℕ, ◌+◌, ◌-◌, ◌*◌, ◌/◌, ◌%◌, ◌==◌, nat_le, ◌++◌, ℤ, pos, ◌+ℤ◌, ◌-ℤ◌, ◌*ℤ◌, unsigned_abs, Bool, ◌&&◌, if◌then◌else◌, List, codes, length, slice_index, Option, Some, None, option_map, option_and_then}
+use Rattle.std.specs.Prelude.{ℕ, ◌+◌, ◌-◌, ◌*◌, ◌/◌, ◌%◌, ◌==◌, nat_le, ◌++◌, ℤ, pos, ◌+ℤ◌, ◌-ℤ◌, ◌*ℤ◌, ◌≤ℤ◌, neg_ℤ, unsigned_abs, Bool, ◌&&◌, if◌then◌else◌, List, codes, length, slice_index, Option, Some, None, option_map, option_and_then}
 use Rattle.std.specs.Char.{is_ascii_digit}
 use Rattle.std.specs.Int.{int_div_euclid, int_rem_euclid}
 use Rattle.jiff_core.specs.Calendar.{days_from_civil, days_in_month}
 use Rattle.jiff_tz.specs.Year.{year_of_day}
+use Rattle.year_table.specs.Dates as dates
 use Rattle.year_table.specs.Dates.{day_of_month, month_of, two_digits}
 use Rattle.ical_text.specs.declared.written.Written.{Written}
 
@@ -30,6 +31,18 @@ moment_by date minute = date ++ codes "T" ++ two_digits (minute / 60) ++ two_dig
 
 abbrev pub moment_text : ℤ → List ℕ
 moment_text k = moment_by (date_text (day_at k)) (minute_at k)
+
+-- a minute of the years from 1899 to 2101
+pub record IsInYears (k : ℤ) : Type 0 where
+  pub not_early : neg_ℤ (pos 53120880) ≤ℤ k
+  pub not_late : k ≤ℤ pos 53646479
+
+-- as people read it: YYYY-MM-DDTHH:MMZ
+abbrev pub shown_by : List ℕ → ℕ → List ℕ
+shown_by date minute = date ++ codes "T" ++ two_digits (minute / 60) ++ codes ":" ++ two_digits (minute % 60) ++ codes "Z"
+
+abbrev pub shown_moment : ℤ → List ℕ
+shown_moment k = shown_by (dates.date_text (day_at k)) (minute_at k)
 
 -- the number that the two digits at a place write
 abbrev pub two_digits_at : List ℕ → ℕ → Option ℕ

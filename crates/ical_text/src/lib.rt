@@ -21,5 +21,6 @@ pub use laws::{
     calendars_are_read_again, lines_decide, reading_is_exact, readings_agree, tables_are_read_again,
 };
 pub use line::Line;
+pub use moment::shown_moment;
 pub use reader::read_ical;
 pub use write::{calendar_end, calendar_head, event_text};

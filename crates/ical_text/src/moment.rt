@@ -3,8 +3,9 @@ ghost use Rattle.std.specs.Prelude.{◌≡◌, ◌≤ℤ◌, neg_ℤ, pos, unsig
 ghost use Rattle.std.specs.String.{string_bytes};
 ghost use Rattle.jiff.specs.Words.{epoch_day};
 ghost use Rattle.jiff_tz.specs.Year.{year_of_day};
+ghost use Rattle.year_table.specs.Dates as dates;
 ghost use Rattle.year_table.specs.Dates.{day_of_month, month_of, two_digits};
-ghost use Rattle.ical_text.specs.Moments.{day_at, date_text, minute_at, moment_by, moment_text, parts_text, stamp_text};
+ghost use Rattle.ical_text.specs.Moments.{IsInYears, day_at, date_text, minute_at, moment_by, moment_text, parts_text, shown_by, shown_moment, stamp_text};
 
 use jiff::ToSpan;
 use jiff::civil::{Date, date};
@@ -15,7 +16,7 @@ use std::fmt::{Display, Formatter, Result as Shown, Write};
 // the date of a day since 1970-01-01, of a year from 1899 to 2101
 fn date_of(day: i32) -> Date
     requires not_early { neg_ℤ (pos 26000) ≤ℤ day }
-    requires not_late { day ≤ℤ pos 48000 }
+    requires not_late { day ≤ℤ pos 48300 }
     ensures { epoch_day result ≡ day }
 {
     match date(1970, 1, 1).checked_add((day as i64).days()) {
@@ -58,7 +59,7 @@ impl Display for DateParts {
 
 fn parts_of(day: i32) -> DateParts
     requires not_early { neg_ℤ (pos 26000) ≤ℤ day }
-    requires not_late { day ≤ℤ pos 48000 }
+    requires not_late { day ≤ℤ pos 48300 }
     ensures year { result.year ≡ unsigned_abs (year_of_day day) }
     ensures month { result.month ≡ month_of day }
     ensures day { result.day ≡ day_of_month day }
@@ -73,7 +74,7 @@ fn parts_of(day: i32) -> DateParts
 
 fn date_string(alloc: Global, day: i32) -> Result<String, NoMemory>
     requires not_early { neg_ℤ (pos 26000) ≤ℤ day }
-    requires not_late { day ≤ℤ pos 48000 }
+    requires not_late { day ≤ℤ pos 48300 }
     ensures { IfOk result (λ t. string_bytes t ≡ date_text day) }
 {
     Ok(format!(in alloc; "{}", parts_of(day))?)
@@ -82,7 +83,7 @@ fn date_string(alloc: Global, day: i32) -> Result<String, NoMemory>
 /// The first minute of a day since 1970-01-01.
 pub(crate) fn stamp_string(alloc: Global, day: i32) -> Result<String, NoMemory>
     requires not_early { neg_ℤ (pos 26000) ≤ℤ day }
-    requires not_late { day ≤ℤ pos 48000 }
+    requires not_late { day ≤ℤ pos 48300 }
     ensures { IfOk result (λ t. string_bytes t ≡ stamp_text day) }
 {
     let mut stamp = date_string(alloc, day)?;
@@ -92,17 +93,17 @@ pub(crate) fn stamp_string(alloc: Global, day: i32) -> Result<String, NoMemory>
 
 fn day_at(k: i64) -> i32
     requires not_early { neg_ℤ (pos 53203000) ≤ℤ k }
-    requires not_late { k ≤ℤ pos 53203000 }
+    requires not_late { k ≤ℤ pos 53650000 }
     ensures value { result ≡ day_at k }
     ensures not_early { neg_ℤ (pos 26000) ≤ℤ result }
-    ensures not_late { result ≤ℤ pos 48000 }
+    ensures not_late { result ≤ℤ pos 48300 }
 {
     (k + 720).div_euclid(1440) as i32 + 10_957
 }
 
 fn minute_at(k: i64) -> u32
     requires not_early { neg_ℤ (pos 53203000) ≤ℤ k }
-    requires not_late { k ≤ℤ pos 53203000 }
+    requires not_late { k ≤ℤ pos 53650000 }
     ensures { result ≡ minute_at k }
 {
     (k + 720).rem_euclid(1440).unsigned_abs() as u32
@@ -111,7 +112,7 @@ fn minute_at(k: i64) -> u32
 /// A minute since 2000-01-01 12:00 Universal Time.
 pub(crate) fn moment_string(alloc: Global, k: i64) -> Result<String, NoMemory>
     requires not_early { neg_ℤ (pos 53203000) ≤ℤ k }
-    requires not_late { k ≤ℤ pos 53203000 }
+    requires not_late { k ≤ℤ pos 53650000 }
     ensures { IfOk result (λ t. string_bytes t ≡ moment_text k) }
 {
     let date = date_string(alloc, day_at(k))?;
@@ -124,4 +125,40 @@ fn moment_by(alloc: Global, date: &str, minute: u32) -> Result<String, NoMemory>
     let hours = TwoDigits(minute / 60);
     let minutes = TwoDigits(minute % 60);
     Ok(format!(in alloc; "{date}T{hours}{minutes}00Z")?)
+}
+
+// the date as YYYY-MM-DD
+fn dashed(alloc: Global, parts: DateParts) -> Result<String, NoMemory>
+    ensures { IfOk result (λ t. string_bytes t ≡ dates.parts_text parts.year parts.month parts.day) }
+{
+    let century = TwoDigits(parts.year / 100);
+    let year = TwoDigits(parts.year % 100);
+    let month = TwoDigits(parts.month);
+    let day = TwoDigits(parts.day);
+    Ok(format!(in alloc; "{century}{year}-{month}-{day}")?)
+}
+
+fn dashed_string(alloc: Global, day: i32) -> Result<String, NoMemory>
+    requires not_early { neg_ℤ (pos 26000) ≤ℤ day }
+    requires not_late { day ≤ℤ pos 48300 }
+    ensures { IfOk result (λ t. string_bytes t ≡ dates.date_text day) }
+{
+    dashed(alloc, parts_of(day))
+}
+
+fn shown_by(alloc: Global, date: &str, minute: u32) -> Result<String, NoMemory>
+    ensures { IfOk result (λ t. string_bytes t ≡ shown_by date.now minute) }
+{
+    let hours = TwoDigits(minute / 60);
+    let minutes = TwoDigits(minute % 60);
+    Ok(format!(in alloc; "{date}T{hours}:{minutes}Z")?)
+}
+
+/// A minute `k` since 2000-01-01 12:00, of the years from 1899 to 2101, in Universal Time: `YYYY-MM-DDTHH:MMZ`.
+pub fn shown_moment(alloc: Global, k: i64) -> Result<String, NoMemory>
+    requires { IsInYears k }
+    ensures { IfOk result (λ t. string_bytes t ≡ shown_moment k) }
+{
+    let date = dashed_string(alloc, day_at(k))?;
+    shown_by(alloc, date.as_str(), minute_at(k))
 }

@@ -1,7 +1,8 @@
 // Reads a calendar line by line.
-ghost use Rattle.std.specs.Prelude.{◌≡◌, ◌<◌, ◌≤◌, ◌+◌, ◌^◌, ◌∷◌, ◌++◌, [], List, ℕ, Ok, Err, OnOk, IfErr, IfOk, MatchResult, ◌⊎◌, if◌then◌else◌, reverse, length};
+ghost use Rattle.std.specs.Prelude.{All, ◌≡◌, ◌<◌, ◌≤◌, ◌+◌, ◌^◌, ◌∷◌, ◌++◌, [], List, ℕ, Ok, Err, OnOk, IfErr, IfOk, MatchResult, ◌⊎◌, if◌then◌else◌, reverse, length};
 ghost use Rattle.ical_text.specs.Held.{place_of, reading_of};
 ghost use Rattle.ical_text.specs.Lines.{joined_from, joined_lines};
+ghost use Rattle.ical_text.specs.Moments.{IsInYears};
 ghost use Rattle.ical_text.specs.Reading.{after_name, end_fault, ends_event, events_by, events_in, fault_by, is_event, is_innermost, is_misplaced, is_outside, opens_calendar, reading, start};
 ghost use Rattle.ical_text.specs.Seen.{property_seen};
 
@@ -238,7 +239,10 @@ fn read_lines(alloc: Global, reader: &mut Reader, bytes: &[u8]) -> Result<(), Ic
 /// 1899 to 2101 and a SUMMARY is an event. Other components and properties are passed over.
 pub fn read_ical(alloc: Global, bytes: &[u8]) -> Result<Events, IcalFault>
     // But for want of memory, the answer is what the joined lines are as a calendar.
-    ensures { MatchResult result (λ events. reading (joined_lines bytes.now) ≡ Ok events) (λ fault. (fault ≡ IcalFault.NoMemory) ⊎ (reading (joined_lines bytes.now) ≡ Err fault)) }
+    ensures reading { MatchResult result (λ events. reading (joined_lines bytes.now) ≡ Ok events) (λ fault. (fault ≡ IcalFault.NoMemory) ⊎ (reading (joined_lines bytes.now) ≡ Err fault)) }
+
+    // Each event is at a moment of the years from 1899 to 2101.
+    ensures moments { IfOk result (λ events. All (λ e. IsInYears e.start) events) }
 {
     let mut reader = Reader::new(alloc);
     if !bytes.is_empty() {
