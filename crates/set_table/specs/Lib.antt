@@ -1,0 +1,7 @@
+pub mod Table
+pub mod Trees
+pub mod RightSet
+pub mod Laws
+pub mod Made
+pub mod Searches
+pub mod Ready
