@@ -1,0 +1,9 @@
+pub mod Meeting
+pub mod Corners
+pub mod Parities
+pub mod Sharing
+pub mod Trees
+pub mod Nearness
+pub mod Growing
+pub mod Opening
+pub mod Drawing

@@ -1,0 +1,15 @@
+-- Answers and refusals of orders with a border, and what a call gives of them.
+use Rattle.std.specs.Prelude.{◌≡◌, ◌⊎◌, Result, Ok, Err}
+use Rattle.border_input.specs.declared.fault.RequestFault.{RequestFault}
+use Rattle.border_input.specs.declared.fault.RequestFault.TheVariants.{NoMemory}
+
+-- the first refusal of steps one after another
+infixl 10 ◌>>=◌
+abbrev pub ◌>>=◌ : {A B : Type 0} → Result A RequestFault → (A → Result B RequestFault) → Result B RequestFault
+(Ok x) >>= f = f x
+(Err e) >>= f = Err e
+
+-- what a call answers, seen by view, is what reading gives, unless memory ran out
+abbrev pub Gives : {X Y : Type 0} → (X → Y) → Result X RequestFault → Result Y RequestFault → Type 0
+Gives view (Ok x) read = read ≡ Ok (view x)
+Gives view (Err e) read = (e ≡ NoMemory) ⊎ (read ≡ Err e)

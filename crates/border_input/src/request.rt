@@ -1,0 +1,9 @@
+use border_check::Border;
+use order_reader::Order;
+
+/// An order, and the real border of its district.
+#[derive(Drop)]
+pub struct Request {
+    pub order: Order,
+    pub border: Border,
+}
