@@ -1,13 +1,13 @@
 -- How a run answers what it read.
-use Rattle.std.proofs.Common.{◌≡◌, ◌⊎◌, ℕ, List, Ok, Err, Result, inl, inr, refl, sym, subst}
-use Rattle.std.specs.Prelude.{◌≢◌}
-use Rattle.command_input.specs.Answers.{Answers, IsTaken, IsTooLong, Leaves, answer_by, answer_shown}
-use Rattle.command_input.specs.Input.{Given, Input, Wanted, a_covering, an_order, covering, limit_of, nothing, order, read, too_long, unread}
-use Rattle.command_input.specs.Taken.{IsCoveringReadAs, IsReadAs, IsTakenAs, ReadCase, Refusing, covered_of, of_coverings, of_orders}
+use Rattle.std.proofs.Common.{◌≡◌, ◌⊎◌, ℕ, Global, List, Ok, Err, Result, inl, inr, refl, sym, subst}
+use Rattle.std.specs.Prelude.{◌≢◌, String, string_bytes}
+use Rattle.command_input.specs.Answers.{Answers, IsTaken, IsTooLong, Leaves, answer_by, answer_listed, answer_shown, answer_together}
+use Rattle.command_input.specs.Input.{Given, Input, Wanted, a_calendar, a_covering, a_set, an_order, calendar, covering, limit_of, nothing, order, read, set, too_long, unread}
+use Rattle.command_input.specs.Taken.{IsCalendarReadAs, IsCoveringReadAs, IsReadAs, IsSetReadAs, IsTakenAs, ReadCase, Refusing, covered_of, of_calendars, of_coverings, of_orders}
 use Rattle.command_input.specs.declared.covering.Covering.{Covering}
 use Rattle.command_input.proofs.InputLemmas.{told_by}
+use Rattle.ical_text.specs.declared.event.Event.{Event}
 use Rattle.order_reader.specs.Asked.{Asked, asked_of}
-use Rattle.order_reader.specs.declared.fault.OrderFault.{OrderFault}
 use Rattle.order_reader.specs.declared.order.Order.{Order}
 use Rattle.outcome.proofs.Endings.{given_up, order_refused}
 use Rattle.outcome.proofs.Endings.{unread as read_failed}
@@ -19,7 +19,9 @@ use Rattle.outcome.specs.Streams.{Stream}
 use Rattle.outcome.specs.declared.ending.Ending.{Ending}
 use Rattle.outcome.specs.declared.ending.Ending.TheVariants.{Plain, Refused}
 use Rattle.outcome.specs.declared.status.Status.{Status}
-use Rattle.outcome.specs.declared.status.Status.TheVariants.{CoverRefused, NoMemory, ReadFault}
+use Rattle.outcome.specs.declared.status.Status.TheVariants.{CoverRefused, IcalRefused, NoMemory, ReadFault}
+use Rattle.set_reader.specs.Asked as set_asked
+use Rattle.set_reader.specs.declared.set.SetOrder.{SetOrder}
 use Rattle.source_sink.specs.Outside.{Rose}
 use Rattle.source_sink.specs.Reading.{IsReadToEnd}
 
@@ -44,14 +46,14 @@ IsTakenWhole wanted = (input : Input) (status : Status) (source source' : Stream
     IsTaken (limit_of wanted) input status source source' → Leaves wanted input status source source'
 
 -- the answer to what is none is its refusal
-record IsRefusedAs {A : Type 0} (input : Given (Result A OrderFault) → Input) (how : Refusing) (answer : Input → Answer) : Type 0 where
+record IsRefusedAs {A F : Type 0} (input : Given (Result A F) → Input) (how : Refusing F) (answer : Input → Answer) : Type 0 where
   long : answer (input too_long) ≡ refusal how.status how.long
   is_long : IsTooLong (input too_long)
-  fault : (e : OrderFault) → answer (input (read (Err e))) ≡ refusal how.status (how.line e)
+  fault : (e : F) → answer (input (read (Err e))) ≡ refusal how.status (how.line e)
   ends : (line : List ℕ) (ending : Ending) (source source' out : Stream) → IsRefusedBy how.status line ending →
       EndsBy (refusal how.status line) ending source source' out out
 
-module _ {X A : Type 0} (wanted : Wanted) (input : Given (Result A OrderFault) → Input) (how : Refusing) (view : X → A) (answer : Input → Answer)
+module _ {X A F : Type 0} (wanted : Wanted) (input : Given (Result A F) → Input) (how : Refusing F) (view : X → A) (answer : Input → Answer)
     (whole : IsTakenWhole wanted) where
   -- that was read
   answers_read : (x : X) (ending : Ending) (source source' out out' : Stream) → IsTakenAs wanted input how view source source' (Ok x) →
@@ -59,7 +61,7 @@ module _ {X A : Type 0} (wanted : Wanted) (input : Given (Result A OrderFault) �
   answers_read x ending source source' out out' is ends = record {
     input = input is.given;
     spelled = is.spelled;
-    ends = subst (λ (g : Given (Result A OrderFault)). EndsBy (answer (input g)) ending source source' out out') (sym is.case.0) ends;
+    ends = subst (λ (g : Given (Result A F)). EndsBy (answer (input g)) ending source source' out out') (sym is.case.0) ends;
     leaves = whole (input is.given) (status_of_ending ending) source source'
         (record { within = is.within; whole = λ no_read memory short. is.case.1; later = is.later });
   }
@@ -96,7 +98,7 @@ module _ {X A : Type 0} (wanted : Wanted) (input : Given (Result A OrderFault) �
             (record { within = is.within; whole = λ no_read no_memory. all; later = is.later });
       }
     where
-      by : (g : Given (Result A OrderFault)) → ReadCase how view g (Err (Refused status line)) source source' →
+      by : (g : Given (Result A F)) → ReadCase how view g (Err (Refused status line)) source source' →
           EndsBy (answer (input g)) (Refused status line) source source' out out ×
           ((IsTooLong (input g) → ⊥) → IsReadToEnd source.bytes source'.bytes)
       by too_long (is_status, is_line) = (
@@ -110,6 +112,30 @@ module _ {X A : Type 0} (wanted : Wanted) (input : Given (Result A OrderFault) �
         λ short. all,
       )
       by (read (Ok a)) case = absurd case
+
+-- ---- a refusal whose status says more than its name
+
+refused_with : (which : Status) →
+    ((line : List ℕ) (text : String Global) (source source' out : Stream) → string_bytes text ≡ line →
+    EndsBy (refusal which line) (Refused which text) source source' out out) →
+    (line : List ℕ) (ending : Ending) (source source' out : Stream) → IsRefusedBy which line ending →
+    EndsBy (refusal which line) ending source source' out out
+refused_with which said line (Plain status) source source' out is_memory =
+    subst (λ (s : Status). EndsBy (refusal which line) (Plain s) source source' out out) (sym is_memory)
+    (given_up (refusal which line) source source' out)
+refused_with which said line (Refused status text) source source' out is =
+    subst (λ (s : Status). EndsBy (refusal which line) (Refused s text) source source' out out) (sym is.0)
+    (said line text source source' out is.1)
+
+cover_said : (line : List ℕ) (text : String Global) (source source' out : Stream) → string_bytes text ≡ line →
+    EndsBy (refusal CoverRefused line) (Refused CoverRefused text) source source' out out
+unfolding EndsAs line_of
+cover_said line text source source' out is = record { ends = (refl, adds_nothing out.bytes); line = is }
+
+calendar_said : (line : List ℕ) (text : String Global) (source source' out : Stream) → string_bytes text ≡ line →
+    EndsBy (refusal IcalRefused line) (Refused IcalRefused text) source source' out out
+unfolding EndsAs line_of
+calendar_said line text source source' out is = record { ends = (refl, adds_nothing out.bytes); line = is }
 
 -- ---- an order
 
@@ -128,16 +154,6 @@ answers_refused f ending source source' out =
 
 -- ---- a covering
 
-cover_refused : (line : List ℕ) (ending : Ending) (source source' out : Stream) → IsRefusedBy CoverRefused line ending →
-    EndsBy (refusal CoverRefused line) ending source source' out out
-unfolding EndsAs line_of
-cover_refused line (Plain status) source source' out is_memory =
-    let P : Status → Type 0 = λ s. EndsBy (refusal CoverRefused line) (Plain s) source source' out out in
-    subst P (sym is_memory) (given_up (refusal CoverRefused line) source source' out)
-cover_refused line (Refused status text) source source' out is =
-    let P : Status → Type 0 = λ s. EndsBy (refusal CoverRefused line) (Refused s text) source source' out out in
-    subst P (sym is.0) (record { ends = (refl, adds_nothing out.bytes); line = is.1 })
-
 -- that was read
 pub answers_covering : (f : Asked → List ℕ → Answer) (c : Covering) (ending : Ending) (source source' out out' : Stream) →
     IsCoveringReadAs source source' (Ok c) → EndsBy (f (covered_of c).order (covered_of c).lines) ending source source' out out' →
@@ -149,4 +165,34 @@ pub answers_no_covering : (f : Asked → List ℕ → Answer) (ending : Ending) 
     Answers a_covering (answer_shown f) ending source source' out out
 answers_no_covering f ending source source' out =
     answers_unfit {X = Covering} a_covering covering of_coverings covered_of (answer_shown f) (λ input status source source' taken. taken) ending source source' out
-    (record { long = refl; is_long = tt; fault = λ e. refl; ends = cover_refused })
+    (record { long = refl; is_long = tt; fault = λ e. refl; ends = refused_with CoverRefused cover_said })
+
+-- ---- a calendar
+
+-- that was read
+pub answers_calendar : (f : List Event → Answer) (events : List Event) (ending : Ending) (source source' out out' : Stream) →
+    IsCalendarReadAs source source' (Ok events) → EndsBy (f events) ending source source' out out' →
+    Answers a_calendar (answer_listed f) ending source source' out out'
+answers_calendar f = answers_read a_calendar calendar of_calendars (λ events. events) (answer_listed f) (λ input status source source' taken. taken)
+
+-- an input that was not read as a calendar
+pub answers_no_calendar : (f : List Event → Answer) (ending : Ending) (source source' out : Stream) → IsCalendarReadAs source source' (Err ending) →
+    Answers a_calendar (answer_listed f) ending source source' out out
+answers_no_calendar f ending source source' out =
+    answers_unfit {X = List Event} a_calendar calendar of_calendars (λ events. events) (answer_listed f) (λ input status source source' taken. taken) ending source source' out
+    (record { long = refl; is_long = tt; fault = λ e. refl; ends = refused_with IcalRefused calendar_said })
+
+-- ---- a set of districts
+
+-- that was read
+pub answers_set : (f : set_asked.SetAsked → Answer) (s : SetOrder) (ending : Ending) (source source' out out' : Stream) →
+    IsSetReadAs source source' (Ok s) → EndsBy (f (set_asked.asked_of s)) ending source source' out out' →
+    Answers a_set (answer_together f) ending source source' out out'
+answers_set f = answers_read a_set set of_orders set_asked.asked_of (answer_together f) (λ input status source source' taken. taken)
+
+-- an input that was not read as a set
+pub answers_no_set : (f : set_asked.SetAsked → Answer) (ending : Ending) (source source' out : Stream) → IsSetReadAs source source' (Err ending) →
+    Answers a_set (answer_together f) ending source source' out out
+answers_no_set f ending source source' out =
+    answers_unfit {X = SetOrder} a_set set of_orders set_asked.asked_of (answer_together f) (λ input status source source' taken. taken) ending source source' out
+    (record { long = refl; is_long = tt; fault = λ e. refl; ends = order_refused })

@@ -1,14 +1,16 @@
 -- The answer to an input, and what a run by it left of its source.
 use Rattle.std.specs.Prelude.{◌≡◌, ◌≢◌, ℕ, ◌≤◌, List, Ok, Err}
-use Rattle.command_input.specs.Input.{Input, IsSpelledBy, Wanted, covering, limit_of, nothing, order, read, too_long}
-use Rattle.command_input.specs.Refusals.{covering_line, long_covering, long_line, refusal_line}
+use Rattle.command_input.specs.Input.{Input, IsSpelledBy, Wanted, calendar, covering, limit_of, nothing, order, read, set, too_long}
+use Rattle.command_input.specs.Refusals.{calendar_line, covering_line, long_calendar, long_covering, long_line, refusal_line}
+use Rattle.ical_text.specs.declared.event.Event.{Event}
 use Rattle.order_reader.specs.Asked.{Asked}
 use Rattle.outcome.specs.Answer.{Answer, refusal, usage_answer}
 use Rattle.outcome.specs.Endings.{EndsBy, status_of_ending}
 use Rattle.outcome.specs.Streams.{Stream}
 use Rattle.outcome.specs.declared.ending.Ending.{Ending}
 use Rattle.outcome.specs.declared.status.Status.{Status}
-use Rattle.outcome.specs.declared.status.Status.TheVariants.{CoverRefused, NoMemory, OrderRefused, ReadFault}
+use Rattle.outcome.specs.declared.status.Status.TheVariants.{CoverRefused, IcalRefused, NoMemory, OrderRefused, ReadFault}
+use Rattle.set_reader.specs.Asked.{SetAsked}
 use Rattle.source_sink.specs.Reading.{GivesWithin, IsReadToEnd}
 
 -- by the order that was read, or its first refusal
@@ -25,9 +27,25 @@ answer_shown answer (covering (read (Err fault))) = refusal CoverRefused (coveri
 answer_shown answer (covering (read (Ok c))) = answer c.order c.lines
 answer_shown answer input = usage_answer
 
+-- by the events of the calendar that was read, or its first fault
+abbrev pub answer_listed : (List Event → Answer) → Input → Answer
+answer_listed answer (calendar too_long) = refusal IcalRefused long_calendar
+answer_listed answer (calendar (read (Err fault))) = refusal IcalRefused (calendar_line fault)
+answer_listed answer (calendar (read (Ok events))) = answer events
+answer_listed answer input = usage_answer
+
+-- by the set that was read, or its first refusal, which is said as that of an order
+abbrev pub answer_together : (SetAsked → Answer) → Input → Answer
+answer_together answer (set too_long) = refusal OrderRefused long_line
+answer_together answer (set (read (Err fault))) = refusal OrderRefused (refusal_line fault)
+answer_together answer (set (read (Ok s))) = answer s
+answer_together answer input = usage_answer
+
 abbrev pub IsTooLong : Input → Type 0
 IsTooLong (order too_long) = Unit {0}
 IsTooLong (covering too_long) = Unit {0}
+IsTooLong (calendar too_long) = Unit {0}
+IsTooLong (set too_long) = Unit {0}
 IsTooLong input = ⊥
 
 -- The first bytes of the source were taken, at most one piece more than the limit; and all of them, but for a read fault,

@@ -1,7 +1,10 @@
--- The lines that say why an input is no order, or no covering.
+-- The lines that say why an input is no order, no covering or no calendar.
 use Rattle.std.specs.Prelude.{ℕ, List, [], ◌++◌, codes, decimal}
 use Rattle.exact_json.specs.declared.fault.JsonFault.{JsonFault}
 use Rattle.exact_json.specs.declared.fault.JsonFault.TheVariants.{NotJson, TooDeep, LongNumber, NoMemory}
+use Rattle.ical_text.specs.declared.fault.IcalFault.{IcalFault}
+use Rattle.ical_text.specs.declared.fault.IcalFault.TheVariants.{NotLine, Frame, Event}
+use Rattle.ical_text.specs.declared.fault.IcalFault.TheVariants.{NoMemory as IcalNoMemory}
 use Rattle.order_reader.specs.Words.{member_word}
 use Rattle.order_reader.specs.declared.fault.OrderFault.{OrderFault}
 use Rattle.order_reader.specs.declared.fault.OrderFault.TheVariants.{Json, Missing, Twice, Kind, Range, Geometry, Region}
@@ -53,3 +56,19 @@ covering_line fault = codes "cover refused line 1 order " ++ (detail_of fault ++
 -- of more bytes than a covering may have
 unfoldable pub long_covering : List ℕ
 long_covering = codes "cover refused long\n"
+
+-- ---- of a calendar
+
+-- lines are counted from 1, after those that were folded are joined
+unfoldable pub fault_text : IcalFault → List ℕ
+fault_text (NotLine line) = decimal line ++ codes " fault 1"
+fault_text (Frame line) = decimal line ++ codes " fault 2"
+fault_text (Event line) = decimal line ++ codes " fault 3"
+fault_text IcalNoMemory = []
+
+unfoldable pub calendar_line : IcalFault → List ℕ
+calendar_line fault = codes "ical refused line " ++ (fault_text fault ++ codes "\n")
+
+-- of more bytes than a calendar may have
+unfoldable pub long_calendar : List ℕ
+long_calendar = codes "ical refused long\n"

@@ -11,10 +11,10 @@ use source_sink::{ReadFault, Source, read_all};
 use std::alloc::Global;
 
 /// The most bytes of an order.
-const ORDER_LIMIT: usize = 16_777_216;
+pub(crate) const ORDER_LIMIT: usize = 16_777_216;
 
-/// How a run ends whose input is no order.
-fn refused(alloc: Global, fault: OrderFault) -> Ending
+/// How a run ends whose input is no order, or no set of districts.
+pub(crate) fn refused(alloc: Global, fault: OrderFault) -> Ending
     ensures { IsRefusalOf of_orders fault result }
 {
     if let OrderFault::NoMemory = fault {
@@ -27,7 +27,7 @@ fn refused(alloc: Global, fault: OrderFault) -> Ending
 }
 
 #[tactic(auto, unfolding(crate::specs::Refusals::long_line))]
-fn too_long(alloc: Global) -> Ending
+pub(crate) fn too_long(alloc: Global) -> Ending
     ensures { IsRefusedBy Status.OrderRefused long_line result }
 {
     match String::from_str(alloc, "order refused 8 long\n") {

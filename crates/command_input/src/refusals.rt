@@ -1,8 +1,9 @@
-// The lines that say why an input is no order, or no covering.
+// The lines that say why an input is no order, no covering or no calendar.
 ghost use Rattle.std.specs.Prelude.{◌≡◌, IfOk, string_bytes};
-ghost use Rattle.command_input.specs.Refusals.{covering_line, json_detail, region_detail, detail_of, refusal_line};
+ghost use Rattle.command_input.specs.Refusals.{calendar_line, covering_line, fault_text, json_detail, region_detail, detail_of, refusal_line};
 
 use exact_json::JsonFault;
+use ical_text::IcalFault;
 use order_reader::{OrderFault, member_word};
 use region::RegionFault;
 use std::alloc::{AllocError, Global};
@@ -19,8 +20,9 @@ fn json_detail(alloc: Global, fault: JsonFault) -> Result<String, AllocError>
     }
 }
 
+/// What a line says of polygons that are no district.
 #[tactic(auto, unfolding(crate::specs::Refusals::region_detail))]
-fn region_detail(alloc: Global, fault: RegionFault) -> Result<String, AllocError>
+pub fn region_detail(alloc: Global, fault: RegionFault) -> Result<String, AllocError>
     ensures { IfOk result (λ text. string_bytes text ≡ region_detail fault) }
 {
     match fault {
@@ -64,7 +66,7 @@ fn detail(alloc: Global, fault: OrderFault) -> Result<String, AllocError>
 
 /// The line for an order's first refusal.
 #[tactic(auto, unfolding(crate::specs::Refusals::refusal_line))]
-pub(crate) fn refusal_line(alloc: Global, fault: OrderFault) -> Result<String, AllocError>
+pub fn refusal_line(alloc: Global, fault: OrderFault) -> Result<String, AllocError>
     ensures { IfOk result (λ text. string_bytes text ≡ refusal_line fault) }
 {
     let detail = detail(alloc, fault)?;
@@ -78,4 +80,25 @@ pub(crate) fn covering_line(alloc: Global, fault: OrderFault) -> Result<String, 
 {
     let detail = detail(alloc, fault)?;
     format!(in alloc; "cover refused line 1 order {detail}\n")
+}
+
+#[tactic(auto, unfolding(crate::specs::Refusals::fault_text))]
+fn fault_text(alloc: Global, fault: IcalFault) -> Result<String, AllocError>
+    ensures { IfOk result (λ text. string_bytes text ≡ fault_text fault) }
+{
+    match fault {
+        IcalFault::NotLine(line) => format!(in alloc; "{line} fault 1"),
+        IcalFault::Frame(line) => format!(in alloc; "{line} fault 2"),
+        IcalFault::Event(line) => format!(in alloc; "{line} fault 3"),
+        IcalFault::NoMemory => format!(in alloc; ""),
+    }
+}
+
+/// The line for a calendar's first fault.
+#[tactic(auto, unfolding(crate::specs::Refusals::calendar_line))]
+pub(crate) fn calendar_line(alloc: Global, fault: IcalFault) -> Result<String, AllocError>
+    ensures { IfOk result (λ text. string_bytes text ≡ calendar_line fault) }
+{
+    let fault = fault_text(alloc, fault)?;
+    format!(in alloc; "ical refused line {fault}\n")
 }

@@ -7,7 +7,7 @@ use Rattle.clap.specs.Walk.{first_of, rows_of}
 use Rattle.clap.specs.declared.parser.matches.ArgMatches.{ArgMatches}
 use Rattle.clap.proofs.OnLiterals.{clap_on_literals}
 use Rattle.order_covering.specs.declared.form.Form.{Form}
-use Rattle.command_words.specs.Options.{IsReadBy, cover_app, demo_app, table_app}
+use Rattle.command_words.specs.Options.{IsReadBy, cover_app, demo_app, ical_app, set_app, table_app}
 use Rattle.command_words.specs.Words.{cover_command, cover_of, demo_command, demo_of, form_in, order_number_in, workers_in}
 use Rattle.command_words.specs.declared.command.Command.{Command}
 
@@ -34,6 +34,22 @@ demo_is_simple = refl
 pub demo_is_free : is_simple_and_free demo_app ≡ true
 unfolding clap_on_literals
 demo_is_free = refl
+
+pub ical_is_simple : is_simple ical_app ≡ true
+unfolding clap_on_literals
+ical_is_simple = refl
+
+pub ical_is_free : is_simple_and_free ical_app ≡ true
+unfolding clap_on_literals
+ical_is_free = refl
+
+pub set_is_simple : is_simple set_app ≡ true
+unfolding clap_on_literals
+set_is_simple = refl
+
+pub set_is_free : is_simple_and_free set_app ≡ true
+unfolding clap_on_literals
+set_is_free = refl
 
 -- what `clap` found, where the command is this one
 read_by : (app other : App) (words : List (List ℕ)) (found : Option ArgMatches) (m : ArgMatches) → app ≡ other → IsReadBy app words found →

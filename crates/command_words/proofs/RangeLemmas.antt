@@ -10,10 +10,10 @@ use Rattle.sun_verdict.specs.Request.{IsInRange, request_in}
 use Rattle.sun_verdict.specs.declared.request.Request.{Request}
 use Rattle.sun_verdict.proofs.RangeLemmas.{requests_are_in_range}
 use Rattle.command_words.specs.Numbers.{number_in}
-use Rattle.command_words.specs.Options.{cover_app, demo_app, table_app}
-use Rattle.command_words.specs.Words.{IsCommand, alone, asking, command_of, cover_command, cover_of, demo_command, demo_of, few, form_in, option_in, order_number_in, sun_command, table_command, table_of, taken, workers_in}
+use Rattle.command_words.specs.Options.{cover_app, demo_app, ical_app, set_app, table_app}
+use Rattle.command_words.specs.Words.{IsCommand, alone, asking, command_of, cover_command, cover_of, demo_command, demo_of, few, form_in, ical_command, ical_of, option_in, order_number_in, set_command, set_of, sun_command, table_command, table_of, taken, workers_in}
 use Rattle.command_words.specs.declared.command.Command.{Command}
-use Rattle.command_words.specs.declared.command.Command.TheVariants.{Unknown, Sun, Order, Plain, Table, Check}
+use Rattle.command_words.specs.declared.command.Command.TheVariants.{Unknown, Sun, Order, Plain, Table, Check, Agenda}
 
 either : (test : Bool) (x y : Command) → IsCommand x → IsCommand y → IsCommand (cond test x y)
 either true x y h k = h
@@ -49,6 +49,14 @@ demo_by None o h = tt
 demo_by (Some number) None h = tt
 demo_by (Some number) (Some workers) h = h
 
+ical_by : (o : Option ℕ) → IsCommand (table_of o) → IsCommand (ical_of o)
+ical_by None h = tt
+ical_by (Some workers) h = h
+
+set_by : (o : Option ℕ) → IsCommand (table_of o) → IsCommand (set_of o)
+set_by None h = tt
+set_by (Some workers) h = h
+
 taken_by : (app : App) (words : List (List ℕ)) (command : Command) → IsCommand command → IsCommand (taken app words command)
 taken_by app words command h = either (is_empty (fault_of app words)) command Unknown h tt
 
@@ -66,6 +74,14 @@ unfolding demo_command
 demo_in words =
     taken_by demo_app words _ (demo_by (order_number_in (option_in demo_app words (codes "number"))) _ (by_workers (option_in demo_app words (codes "workers"))))
 
+ical_in : (words : List (List ℕ)) → IsCommand (ical_command words)
+unfolding ical_command
+ical_in words = taken_by ical_app words _ (ical_by _ (by_workers (option_in ical_app words (codes "workers"))))
+
+set_in : (words : List (List ℕ)) → IsCommand (set_command words)
+unfolding set_command
+set_in words = taken_by set_app words _ (set_by _ (by_workers (option_in set_app words (codes "workers"))))
+
 sun_in : (words : List (List ℕ)) → IsCommand (sun_command words)
 unfolding sun_command
 sun_in words = of_request (request_in words) (requests_are_in_range words)
@@ -75,7 +91,10 @@ unfolding command_of
 commands_are_in_range [] = tt
 commands_are_in_range (name ∷ words) =
     let is : List ℕ → Bool = bytes_eq name in
-    let demo = cond (is (codes "demo")) (demo_command words) Unknown in
+    let set = cond (is (codes "set")) (set_command words) Unknown in
+    let agenda = cond (is (codes "agenda")) (alone words Agenda) set in
+    let ical = cond (is (codes "ical")) (ical_command words) agenda in
+    let demo = cond (is (codes "demo")) (demo_command words) ical in
     let check = cond (is (codes "check")) (alone words Check) demo in
     let cover = cond (is (codes "cover")) (cover_command words) check in
     let table = cond (is (codes "table")) (table_command words) cover in
@@ -87,4 +106,7 @@ commands_are_in_range (name ∷ words) =
     (either (is (codes "table")) (table_command words) cover (table_in words)
     (either (is (codes "cover")) (cover_command words) check (cover_in words)
     (either (is (codes "check")) (alone words Check) demo (without_words words Check tt)
-    (either (is (codes "demo")) (demo_command words) Unknown (demo_in words) tt))))))
+    (either (is (codes "demo")) (demo_command words) ical (demo_in words)
+    (either (is (codes "ical")) (ical_command words) agenda (ical_in words)
+    (either (is (codes "agenda")) (alone words Agenda) set (without_words words Agenda tt)
+    (either (is (codes "set")) (set_command words) Unknown (set_in words) tt)))))))))

@@ -33,6 +33,12 @@ cover_app = app_with_2 (codes "cover") (codes "workers") (codes "form")
 abbrev pub demo_app : App
 demo_app = app_with_2 (codes "demo") (codes "number") (codes "workers")
 
+abbrev pub ical_app : App
+ical_app = app_with_1 (codes "ical") (codes "workers")
+
+abbrev pub set_app : App
+set_app = app_with_1 (codes "set") (codes "workers")
+
 -- what `clap` makes of the words: none where it refuses them
 abbrev pub IsReadBy : App → List (List ℕ) → Option ArgMatches → Type 0
 IsReadBy app words None = fault_of app words ≢ []

@@ -8,9 +8,9 @@ use Rattle.order_covering.specs.declared.form.Form.TheVariants.{Letters, Runs}
 use Rattle.sun_verdict.specs.Request.{IsInRange, request_in}
 use Rattle.sun_verdict.specs.declared.request.Request.{Request}
 use Rattle.command_words.specs.Numbers.{number_in}
-use Rattle.command_words.specs.Options.{cover_app, demo_app, table_app}
+use Rattle.command_words.specs.Options.{cover_app, demo_app, ical_app, set_app, table_app}
 use Rattle.command_words.specs.declared.command.Command.{Command}
-use Rattle.command_words.specs.declared.command.Command.TheVariants.{Unknown, Sun, Order, Plain, Table, Cover, Check, Demo}
+use Rattle.command_words.specs.declared.command.Command.TheVariants.{Unknown, Sun, Order, Plain, Table, Cover, Check, Demo, Ical, Agenda, Set}
 
 -- a command that takes no further word
 abbrev pub alone : List (List ℕ) → Command → Command
@@ -59,6 +59,14 @@ abbrev pub demo_of : Option ℕ → Option ℕ → Command
 demo_of (Some number) (Some workers) = Demo number workers
 demo_of number workers = Unknown
 
+abbrev pub ical_of : Option ℕ → Command
+ical_of (Some workers) = Ical workers
+ical_of None = Unknown
+
+abbrev pub set_of : Option ℕ → Command
+set_of (Some workers) = Set workers
+set_of None = Unknown
+
 -- the text of an option, where it stands among words that `clap` takes
 abbrev pub option_in : App → List (List ℕ) → List ℕ → Option (List ℕ)
 option_in app words option = first_of option (matches_of app words)
@@ -80,6 +88,12 @@ demo_command words =
     taken demo_app words
     (demo_of (order_number_in (option_in demo_app words (codes "number"))) (workers_in (option_in demo_app words (codes "workers"))))
 
+unfoldable pub ical_command : List (List ℕ) → Command
+ical_command words = taken ical_app words (ical_of (workers_in (option_in ical_app words (codes "workers"))))
+
+unfoldable pub set_command : List (List ℕ) → Command
+set_command words = taken set_app words (set_of (workers_in (option_in set_app words (codes "workers"))))
+
 -- ---- all words
 
 unfoldable pub command_of : List (List ℕ) → Command
@@ -92,6 +106,9 @@ command_of (name ∷ words) =
     else if bytes_eq name (codes "cover") then cover_command words
     else if bytes_eq name (codes "check") then alone words Check
     else if bytes_eq name (codes "demo") then demo_command words
+    else if bytes_eq name (codes "ical") then ical_command words
+    else if bytes_eq name (codes "agenda") then alone words Agenda
+    else if bytes_eq name (codes "set") then set_command words
     else Unknown
 
 -- what is known of a command that words ask for
@@ -100,6 +117,8 @@ IsCommand (Sun r) = IsInRange r
 IsCommand (Table workers) = (1 ≤ workers) × (workers ≤ 16)
 IsCommand (Cover workers form) = (1 ≤ workers) × (workers ≤ 16)
 IsCommand (Demo number workers) = (1 ≤ workers) × (workers ≤ 16)
+IsCommand (Ical workers) = (1 ≤ workers) × (workers ≤ 16)
+IsCommand (Set workers) = (1 ≤ workers) × (workers ≤ 16)
 IsCommand command = Unit {0}
 
 -- the command where one thread does the work: those that need more are none there
@@ -107,4 +126,6 @@ abbrev pub without_workers : Command → Command
 without_workers (Table workers) = Unknown
 without_workers (Cover workers form) = Unknown
 without_workers (Demo number workers) = Unknown
+without_workers (Ical workers) = Unknown
+without_workers (Set workers) = Unknown
 without_workers command = command

@@ -34,4 +34,16 @@ pub enum Command {
         /// How many workers search, from 1 to 16.
         workers: u32,
     },
+    /// `ical`.
+    Ical {
+        /// How many workers search, from 1 to 16.
+        workers: u32,
+    },
+    /// `agenda`.
+    Agenda,
+    /// `set`.
+    Set {
+        /// How many workers search, from 1 to 16.
+        workers: u32,
+    },
 }

@@ -3,7 +3,7 @@ ghost use Rattle.std.specs.Prelude.{◌≡◌, IfOk, false, true, map, string_by
 ghost use Rattle.clap.specs.Faults.{is_simple_and_free};
 ghost use Rattle.clap.specs.Simple.{app_of, is_simple};
 ghost use Rattle.clap.specs.Walk.{rule_of};
-ghost use Rattle.command_words.specs.Options.{IsReadBy, cover_app, demo_app, option_rule, plain_app, table_app};
+ghost use Rattle.command_words.specs.Options.{IsReadBy, cover_app, demo_app, ical_app, option_rule, plain_app, set_app, table_app};
 
 use clap::error::ErrorKind;
 use clap::{Arg, ArgAction, ArgMatches, Command};
@@ -50,6 +50,20 @@ pub(crate) fn demo_options<'a>(alloc: Global) -> Result<Command<'a>, AllocError>
     plain(alloc, "demo")
         .arg(option(alloc, "number"))?
         .arg(option(alloc, "workers"))
+}
+
+/// `ical [--workers W]`.
+pub(crate) fn ical_options<'a>(alloc: Global) -> Result<Command<'a>, AllocError>
+    ensures { IfOk result (λ c. app_of c ≡ ical_app) }
+{
+    plain(alloc, "ical").arg(option(alloc, "workers"))
+}
+
+/// `set [--workers W]`.
+pub(crate) fn set_options<'a>(alloc: Global) -> Result<Command<'a>, AllocError>
+    ensures { IfOk result (λ c. app_of c ≡ set_app) }
+{
+    plain(alloc, "set").arg(option(alloc, "workers"))
 }
 
 /// The texts of a simple command's options; none where `clap` refuses the words.

@@ -2,11 +2,13 @@
 ghost use Rattle.std.specs.Prelude.{◌≡◌, ◌≤◌, IfOk, IfSome, map, option_map, string_bytes};
 ghost use Rattle.clap.specs.Matches.{found_of};
 ghost use Rattle.clap.specs.Walk.{first_of, rows_of};
-ghost use Rattle.command_words.specs.Words.{IsCommand, alone, command_of, cover_command, cover_of, demo_command, demo_of, form_in, order_number_in, sun_command, table_command, workers_in};
+ghost use Rattle.command_words.specs.Words.{IsCommand, alone, command_of, cover_command, cover_of, demo_command, demo_of, form_in, ical_command, order_number_in, set_command, sun_command, table_command, workers_in};
 
 use crate::command::Command;
 use crate::number::number;
-use crate::options::{cover_options, demo_options, read_options, table_options};
+use crate::options::{
+    cover_options, demo_options, ical_options, read_options, set_options, table_options,
+};
 use clap::ArgMatches;
 use no_memory::NoMemory;
 use order_covering::Form;
@@ -153,6 +155,36 @@ fn demo(alloc: Global, rest: &[String]) -> Result<Command, NoMemory>
     Ok(demo_of(number, workers))
 }
 
+/// `ical`, with its option.
+#[tactic(auto, unfolding(crate::specs::Words::ical_command))]
+fn ical(alloc: Global, rest: &[String]) -> Result<Command, NoMemory>
+    ensures value { IfOk result (λ c. c ≡ ical_command (map string_bytes rest.now)) }
+    ensures range { IfOk result IsCommand }
+{
+    let Some(matches) = read_options(ical_options(alloc)?, rest)? else {
+        return Ok(Command::Unknown);
+    };
+    match workers(alloc, text(&matches, "workers"))? {
+        Some(workers) => Ok(Command::Ical { workers }),
+        None => Ok(Command::Unknown),
+    }
+}
+
+/// `set`, with its option.
+#[tactic(auto, unfolding(crate::specs::Words::set_command))]
+fn set(alloc: Global, rest: &[String]) -> Result<Command, NoMemory>
+    ensures value { IfOk result (λ c. c ≡ set_command (map string_bytes rest.now)) }
+    ensures range { IfOk result IsCommand }
+{
+    let Some(matches) = read_options(set_options(alloc)?, rest)? else {
+        return Ok(Command::Unknown);
+    };
+    match workers(alloc, text(&matches, "workers"))? {
+        Some(workers) => Ok(Command::Set { workers }),
+        None => Ok(Command::Unknown),
+    }
+}
+
 /// The command that the words ask for.
 #[tactic(auto, unfolding(crate::specs::Words::command_of))]
 pub fn command_in(alloc: Global, words: &[String]) -> Result<Command, NoMemory>
@@ -170,6 +202,9 @@ pub fn command_in(alloc: Global, words: &[String]) -> Result<Command, NoMemory>
         "cover" => cover(alloc, rest),
         "check" => Ok(alone(rest, Command::Check)),
         "demo" => demo(alloc, rest),
+        "ical" => ical(alloc, rest),
+        "agenda" => Ok(alone(rest, Command::Agenda)),
+        "set" => set(alloc, rest),
         _ => Ok(Command::Unknown),
     }
 }

@@ -7,7 +7,7 @@ use Rattle.outcome.specs.Answer.{Answer, status_of_count}
 use Rattle.outcome.specs.Ends.{EndsAs}
 use Rattle.outcome.specs.Streams.{Stream}
 use Rattle.outcome.specs.declared.status.Status.{Status}
-use Rattle.outcome.specs.declared.status.Status.TheVariants.{Done, Open, Usage, OrderRefused, ReadFault, WriteFault, NoMemory, CoverRefused}
+use Rattle.outcome.specs.declared.status.Status.TheVariants.{Done, Open, Usage, OrderRefused, ReadFault, WriteFault, NoMemory, CoverRefused, IcalRefused}
 
 -- ---- the ways in which a run ends
 
@@ -45,6 +45,7 @@ ways a Open source source' out out' ends = inl (record { is = ends.0; added = en
 ways a Usage source source' out out' ends = inl (record { is = ends.0; added = ends.1 })
 ways a OrderRefused source source' out out' ends = inl (record { is = ends.0; added = ends.1 })
 ways a CoverRefused source source' out out' ends = inl (record { is = ends.0; added = ends.1 })
+ways a IcalRefused source source' out out' ends = inl (record { is = ends.0; added = ends.1 })
 ways a ReadFault source source' out out' ends = inr (inl (record { is = refl; rose = ends.0; added = ends.1 }))
 ways a WriteFault source source' out out' ends = inr (inr (inl (record { is = refl; rose = ends.0; added = ends.1 })))
 ways a NoMemory source source' out out' ends = inr (inr (inr (record { is = refl; added = ends })))

@@ -1,7 +1,7 @@
 -- What the program answers: a status, a text for the output and a line for the error stream.
 use Rattle.std.specs.Prelude.{ℕ, ◌==◌, if◌then◌else◌, List, [], codes}
 use Rattle.outcome.specs.declared.status.Status.{Status}
-use Rattle.outcome.specs.declared.status.Status.TheVariants.{Done, Open, Usage, OrderRefused, ReadFault, WriteFault, NoMemory, CoverRefused}
+use Rattle.outcome.specs.declared.status.Status.TheVariants.{Done, Open, Usage, OrderRefused, ReadFault, WriteFault, NoMemory, CoverRefused, IcalRefused}
 
 pub record Answer : Type 0 where
   pub status : Status
@@ -18,11 +18,12 @@ number_of ReadFault = 4
 number_of WriteFault = 5
 number_of NoMemory = 6
 number_of CoverRefused = 7
+number_of IcalRefused = 8
 
 -- the line on the error stream of a status that says no more than its name
 unfoldable pub line_of_status : Status → List ℕ
 line_of_status Usage =
-    codes "usage: timetable table [--workers W] | cover [--workers W] [--form F] | demo [--number M] [--workers W] | plain | check | order | sun MINUTE LON LAT WHAT\n"
+    codes "usage: timetable table [--workers W] | cover [--workers W] [--form F] | demo [--number M] [--workers W] | plain | check | order | sun MINUTE LON LAT WHAT [meeus] | set [--workers W] | ical [--workers W] | agenda\n"
 line_of_status ReadFault = codes "read fault\n"
 line_of_status WriteFault = codes "write fault\n"
 line_of_status NoMemory = codes "no memory\n"

@@ -21,6 +21,8 @@ pub enum Status {
     NoMemory,
     /// The input is no covering that the checker accepts, or too long for one.
     CoverRefused,
+    /// The input is no calendar, or too long for one.
+    IcalRefused,
 }
 
 impl Status {
@@ -38,12 +40,16 @@ impl Status {
     {
         match self {
             Status::Usage => {
-                "usage: timetable table [--workers W] | cover [--workers W] [--form F] | demo [--number M] [--workers W] | plain | check | order | sun MINUTE LON LAT WHAT\n"
+                "usage: timetable table [--workers W] | cover [--workers W] [--form F] | demo [--number M] [--workers W] | plain | check | order | sun MINUTE LON LAT WHAT [meeus] | set [--workers W] | ical [--workers W] | agenda\n"
             }
             Status::ReadFault => "read fault\n",
             Status::WriteFault => "write fault\n",
             Status::NoMemory => "no memory\n",
-            Status::Done | Status::Open | Status::OrderRefused | Status::CoverRefused => "",
+            Status::Done
+            | Status::Open
+            | Status::OrderRefused
+            | Status::CoverRefused
+            | Status::IcalRefused => "",
         }
     }
 }

@@ -1,14 +1,16 @@
 -- How the answer to each command is made.
 use Rattle.std.proofs.Common.{◌≡◌, ℕ, List, [], Bool, true, false, cond, Ok, Err, Result, refl, sym, subst, arith}
 use Rattle.std.specs.Prelude.{◌≢◌, ◌==◌, IfOk}
-use Rattle.command_input.proofs.AnswerLemmas.{answers_covering, answers_no_covering, answers_order, answers_refused, answers_unread}
+use Rattle.agenda_list.specs.Agenda.{agenda_answer, agenda_text}
+use Rattle.command_input.proofs.AnswerLemmas.{answers_calendar, answers_covering, answers_no_calendar, answers_no_covering, answers_no_set, answers_order, answers_refused, answers_set, answers_unread}
 use Rattle.command_input.proofs.InputLemmas.{every_text_is_an_input, told_by}
 use Rattle.command_input.specs.Answers.{Answers, IsTaken, Leaves, answer_by}
-use Rattle.command_input.specs.Input.{Input, Wanted, a_covering, an_order, limit_of, nothing}
-use Rattle.command_input.specs.Taken.{IsCoveringReadAs, IsReadAs, covered_of}
+use Rattle.command_input.specs.Input.{Input, Wanted, a_calendar, a_covering, a_set, an_order, limit_of, nothing}
+use Rattle.command_input.specs.Taken.{IsCalendarReadAs, IsCoveringReadAs, IsReadAs, IsSetReadAs, covered_of}
 use Rattle.command_input.specs.declared.covering.Covering.{Covering}
 use Rattle.demo_summary.specs.Demo.{demo_asked}
 use Rattle.demo_summary.specs.Summary.{summary_line}
+use Rattle.ical_text.specs.declared.event.Event.{Event}
 use Rattle.order_reader.specs.Asked.{Asked, asked_of}
 use Rattle.order_table.specs.Trees.{undecided}
 use Rattle.order_reader.specs.declared.order.Order.{Order as OrderRead}
@@ -28,10 +30,13 @@ use Rattle.outcome.specs.declared.stop.Stop.TheVariants.{NoMemory as StopNoMemor
 use Rattle.shown_table.specs.Shown.{shown_answer}
 use Rattle.sun_verdict.specs.Line.{undecided_in, verdict_line}
 use Rattle.sun_verdict.specs.declared.request.Request.{Request}
-use Rattle.timetable.specs.Answer.{answer_to, wanted_by}
+use Rattle.set_reader.specs.Asked as set_asked
+use Rattle.set_reader.specs.declared.set.SetOrder.{SetOrder}
+use Rattle.set_table.specs.Trees as sets
+use Rattle.timetable.specs.Answer.{answer_to, set_answer, wanted_by}
 use Rattle.timetable.specs.Ended.{Ended}
 use Rattle.command_words.specs.declared.command.Command.{Command}
-use Rattle.command_words.specs.declared.command.Command.TheVariants.{Unknown, Sun, Check, Demo}
+use Rattle.command_words.specs.declared.command.Command.TheVariants.{Unknown, Sun, Check, Demo, Agenda, Set}
 
 -- the answer to a command, where it is this one
 abbrev pub AnswersTo : Command → Ending → Stream → Stream → Stream → Stream → Type 0
@@ -89,6 +94,8 @@ dry_answers command source out =
     left nothing input = (refl, λ same. cc)
     left an_order input = untaken (limit_of an_order) input
     left a_covering input = untaken (limit_of a_covering) input
+    left a_calendar input = untaken (limit_of a_calendar) input
+    left a_set input = untaken (limit_of a_set) input
 
 -- what is written for an order that was read, where the command answers it so
 pub read_answers : (which : Command) (answer : Asked → Answer) → wanted_by which ≡ an_order → answer_to which ≡ answer_by answer →
@@ -117,6 +124,32 @@ check_answers command c ending source source' out out' is was_read ends = rw is 
 pub check_refuses : (command : Command) (ending : Ending) (source source' out : Stream) → command ≡ Check →
     IsCoveringReadAs source source' (Err ending) → AnswersTo command ending source source' out out
 check_refuses command ending source source' out is was_read = rw is (answers_no_covering shown_answer ending source source' out was_read)
+
+-- the agenda of a calendar that was read
+pub agenda_answers : (command : Command) (events : List Event) (w : Result ℕ Stop) (ending : Ending) (source source' out out' : Stream) →
+    command ≡ Agenda → IsCalendarReadAs source source' (Ok events) →
+    Writes {X = ℕ} (agenda_text events) w out.faults out'.faults out.bytes out'.bytes → IfOk w (λ count. count ≡ 0) → ending ≡ ending_of w →
+    AnswersTo command ending source source' out out'
+agenda_answers command events w ending source source' out out' is was_read writes count same =
+    rw (is, same) (answers_calendar agenda_answer events (ending_of w) source source' out out' was_read
+    (text_ending (agenda_text events) 0 w source source' out out' writes count))
+
+pub agenda_refuses : (command : Command) (ending : Ending) (source source' out : Stream) → command ≡ Agenda →
+    IsCalendarReadAs source source' (Err ending) → AnswersTo command ending source source' out out
+agenda_refuses command ending source source' out is was_read = rw is (answers_no_calendar agenda_answer ending source source' out was_read)
+
+-- the table of a set that was read
+pub set_answers : (command : Command) (workers : ℕ) (s : SetOrder) (w : Result ℕ Stop) (ending : Ending) (source source' out out' : Stream) →
+    command ≡ Set workers → IsSetReadAs source source' (Ok s) →
+    Writes {X = ℕ} (sets.table_of (set_asked.asked_of s)) w out.faults out'.faults out.bytes out'.bytes →
+    IfOk w (λ count. count ≡ sets.undecided (set_asked.asked_of s)) → ending ≡ ending_of w → AnswersTo command ending source source' out out'
+set_answers command workers s w ending source source' out out' is was_read writes count same =
+    rw (is, same) (answers_set set_answer s (ending_of w) source source' out out' was_read
+    (text_ending (sets.table_of (set_asked.asked_of s)) (sets.undecided (set_asked.asked_of s)) w source source' out out' writes count))
+
+pub set_refuses : (command : Command) (workers : ℕ) (ending : Ending) (source source' out : Stream) → command ≡ Set workers →
+    IsSetReadAs source source' (Err ending) → AnswersTo command ending source source' out out
+set_refuses command workers ending source source' out is was_read = rw is (answers_no_set set_answer ending source source' out was_read)
 
 -- what was answered, with the line that was reported
 pub ended_by : (command : Command) (ending : Ending) (status : Status) (line : List ℕ) (before after : Streams) →

@@ -1,19 +1,20 @@
 -- What the words of examples ask for, and what the laws say of them.
 use Rattle.std.proofs.Common.{◌≡◌, ℕ, ◌<◌, ◌⊎◌, List, [], ◌∷◌, codes, length, refl, subst}
 use Rattle.std.specs.Prelude.{pos}
-use Rattle.command_input.specs.Input.{an_order, limit_of, order, too_long, unread}
+use Rattle.command_input.specs.Input.{a_calendar, an_order, calendar, limit_of, order, too_long, unread}
 use Rattle.outcome.specs.Streams.{Streams}
 use Rattle.outcome.specs.declared.status.Status.{Status}
-use Rattle.outcome.specs.declared.status.Status.TheVariants.{Done, OrderRefused, NoMemory}
+use Rattle.outcome.specs.declared.status.Status.TheVariants.{Done, OrderRefused, NoMemory, IcalRefused}
 use Rattle.outcome.specs.declared.status.Status.TheVariants.{Open as StatusOpen}
+use Rattle.sun_choice.specs.declared.choice.SunChoice.TheVariants.{Usno}
 use Rattle.sun_verdict.specs.Decimals.{digits_in, millionths_in}
-use Rattle.sun_verdict.specs.Request.{angle_in, coordinate_in, minute_in, question_in, request_in}
+use Rattle.sun_verdict.specs.Request.{angle_in, asked_of, coordinate_in, minute_in, question_in, request_in}
 use Rattle.sun_verdict.specs.declared.request.Question.TheVariants.{Altitude}
 use Rattle.sun_verdict.specs.declared.request.Request.{Request}
 use Rattle.timetable.specs.Memory.{KeepsTheLaws}
 use Rattle.command_words.specs.Words.{command_of, sun_command, without_workers}
 use Rattle.command_words.specs.declared.command.Command.{Command}
-use Rattle.command_words.specs.declared.command.Command.TheVariants.{Unknown, Sun, Order}
+use Rattle.command_words.specs.declared.command.Command.TheVariants.{Unknown, Sun, Order, Agenda}
 
 pub no_words_are_wrong : (words : List (List ℕ)) → words ≡ [] → without_workers (command_of words) ≡ Unknown
 unfolding command_of
@@ -23,21 +24,30 @@ pub order_alone : (word : List ℕ) → word ≡ codes "order" → without_worke
 unfolding command_of
 order_alone word is = rw is refl
 
+pub agenda_alone : (word : List ℕ) → word ≡ codes "agenda" → without_workers (command_of (word ∷ [])) ≡ Agenda
+unfolding command_of
+agenda_alone word is = rw is refl
+
 pub first_request : Request
-first_request = record { minute = pos 0; lon = pos 0; lat = pos 0; question = Altitude (pos 0) }
+first_request = record { minute = pos 0; lon = pos 0; lat = pos 0; question = Altitude (pos 0); sun = Usno }
 
 pub sun_with_four : (name minute lon lat what : List ℕ) → name ≡ codes "sun" → minute ≡ codes "0" → lon ≡ codes "0" → lat ≡ codes "0" →
     what ≡ codes "0" → without_workers (command_of (name ∷ minute ∷ lon ∷ lat ∷ what ∷ [])) ≡ Sun first_request
-unfolding command_of sun_command request_in minute_in coordinate_in question_in angle_in millionths_in digits_in first_request
+unfolding command_of sun_command request_in asked_of minute_in coordinate_in question_in angle_in millionths_in digits_in first_request
 sun_with_four name minute lon lat what is_name is_minute is_lon is_lat is_what = rw (is_name, is_minute, is_lon, is_lat, is_what) refl
 
 module _ (command : Command) (bytes : List ℕ) (status : Status) (before after : Streams) (keeps : KeepsTheLaws command bytes status before after) where
   pub long_is_refused : command ≡ Order → limit_of an_order < length bytes → (status ≡ OrderRefused) ⊎ (status ≡ NoMemory)
   long_is_refused is long =
       let k = subst (λ (it : Command). KeepsTheLaws it bytes status before after) is keeps in
-      k.wrong_order refl (order too_long) long tt
+      k.wrong_order tt (order too_long) long tt
+
+  pub long_is_no_calendar : command ≡ Agenda → limit_of a_calendar < length bytes → (status ≡ IcalRefused) ⊎ (status ≡ NoMemory)
+  long_is_no_calendar is long =
+      let k = subst (λ (it : Command). KeepsTheLaws it bytes status before after) is keeps in
+      k.wrong_calendar refl (calendar too_long) long tt
 
   pub sun_is_answered : (r : Request) → command ≡ Sun r → (status ≡ Done) ⊎ (status ≡ StatusOpen) ⊎ (status ≡ NoMemory)
   sun_is_answered r is =
       let k = subst (λ (it : Command). KeepsTheLaws it bytes status before after) is keeps in
-      k.answered (λ same. cc) unread tt (λ reads. absurd cc) (λ reads. absurd cc)
+      k.answered (λ same. cc) unread tt (λ reads. absurd reads) (λ reads. absurd cc) (λ reads. absurd cc)

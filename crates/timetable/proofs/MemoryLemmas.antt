@@ -4,12 +4,12 @@ use Rattle.command_input.proofs.InputLemmas.{inputs_agree}
 use Rattle.command_input.specs.Input.{Input, IsSpelled}
 use Rattle.outcome.specs.Streams.{Streams}
 use Rattle.outcome.specs.declared.status.Status.{Status}
-use Rattle.outcome.specs.declared.status.Status.TheVariants.{Usage, OrderRefused, ReadFault, NoMemory}
+use Rattle.outcome.specs.declared.status.Status.TheVariants.{Usage, OrderRefused, ReadFault, NoMemory, IcalRefused}
 use Rattle.source_sink.specs.Outside.{Rose}
-use Rattle.timetable.proofs.LawLemmas.{finished_runs_wrote_the_answer, orders_are_refused_for_cause, right_words_are_answered, tables_are_right, told_bytes_decide, usage_is_for_wrong_words, wrong_orders_are_refused, wrong_words_are_refused}
+use Rattle.timetable.proofs.LawLemmas.{finished_runs_wrote_the_answer, orders_are_refused_for_cause, right_words_are_answered, tables_are_right, told_bytes_decide, usage_is_for_wrong_words, wrong_calendars_are_refused, wrong_orders_are_refused, wrong_words_are_refused}
 use Rattle.timetable.specs.Answer.{wanted_by}
 use Rattle.timetable.specs.Ended.{Ended}
-use Rattle.timetable.specs.Laws.{IsACovering, IsAnOrder, IsFinished, IsNoOrder, IsRefused}
+use Rattle.timetable.specs.Laws.{IsACalendar, IsACovering, IsAnOrder, IsFinished, IsNoCalendar, IsNoOrder, IsRefused}
 use Rattle.timetable.specs.Memory.{KeepsTheLaws}
 use Rattle.command_words.specs.declared.command.Command.{Command}
 use Rattle.command_words.specs.declared.command.Command.TheVariants.{Unknown}
@@ -21,12 +21,12 @@ input_told {command = command} run bytes told input spelled =
     let P : List ℕ → Type 0 = λ b. IsSpelled (wanted_by command) b input in
     inputs_agree (wanted_by command) run.spelled.bytes run.input input run.spelled.spelled (subst P (run.spelled.told bytes told) spelled)
 
-without_a_read_fault : (status : Status) (before after : Streams) → (Rose before.source.faults after.source.faults → ⊥) →
-    (status ≡ OrderRefused) ⊎ ((status ≡ ReadFault) × Rose before.source.faults after.source.faults) ⊎ (status ≡ NoMemory) →
-    (status ≡ OrderRefused) ⊎ (status ≡ NoMemory)
-without_a_read_fault status before after no_read (inl refused) = inl refused
-without_a_read_fault status before after no_read (inr (inl fault)) = absurd (no_read fault.1)
-without_a_read_fault status before after no_read (inr (inr dry)) = inr dry
+without_a_read_fault : (status refused : Status) (before after : Streams) → (Rose before.source.faults after.source.faults → ⊥) →
+    (status ≡ refused) ⊎ ((status ≡ ReadFault) × Rose before.source.faults after.source.faults) ⊎ (status ≡ NoMemory) →
+    (status ≡ refused) ⊎ (status ≡ NoMemory)
+without_a_read_fault status refused before after no_read (inl is) = inl is
+without_a_read_fault status refused before after no_read (inr (inl fault)) = absurd (no_read fault.1)
+without_a_read_fault status refused before after no_read (inr (inr dry)) = inr dry
 
 pub keeps_the_laws : (command : Command) (bytes : List ℕ) (status : Status) (before after : Streams) → Ended command status before after →
     before.source.bytes ≡ Some bytes → (Rose before.source.faults after.source.faults → ⊥) → (Rose before.out.faults after.out.faults → ⊥) →
@@ -44,13 +44,18 @@ keeps_the_laws command bytes status before after run told no_read no_write =
           subst (λ (i : Input). IsRefused command i before after) (input_told refused bytes told input spelled)
           (orders_are_refused_for_cause command before after refused);
       wrong_order = λ reads input spelled wrong.
-          without_a_read_fault status before after no_read
+          without_a_read_fault status OrderRefused before after no_read
           (wrong_orders_are_refused command status before after run reads
           (subst IsNoOrder (sym (input_told run bytes told input spelled)) wrong));
-      answered = λ known input spelled accepted shown.
+      wrong_calendar = λ reads input spelled wrong.
+          without_a_read_fault status IcalRefused before after no_read
+          (wrong_calendars_are_refused command status before after run reads
+          (subst IsNoCalendar (sym (input_told run bytes told input spelled)) wrong));
+      answered = λ known input spelled accepted shown listed.
           right_words_are_answered command status before after run known
           (λ reads. subst IsAnOrder (sym (input_told run bytes told input spelled)) (accepted reads))
-          (λ reads. subst IsACovering (sym (input_told run bytes told input spelled)) (shown reads)) no_read no_write;
+          (λ reads. subst IsACovering (sym (input_told run bytes told input spelled)) (shown reads))
+          (λ reads. subst IsACalendar (sym (input_told run bytes told input spelled)) (listed reads)) no_read no_write;
       finished = λ is input spelled.
           subst (λ (i : Input). IsFinished command status i before after) (input_told run bytes told input spelled)
           (finished_runs_wrote_the_answer command status before after run is);

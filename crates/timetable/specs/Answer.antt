@@ -1,18 +1,22 @@
 -- What the program answers to its words and its input.
 use Rattle.std.specs.Prelude.{ℕ, List}
-use Rattle.command_input.specs.Answers.{answer_by, answer_shown}
-use Rattle.command_input.specs.Input.{Input, Wanted, a_covering, an_order, nothing}
+use Rattle.agenda_list.specs.Agenda.{agenda_answer}
+use Rattle.command_input.specs.Answers.{answer_by, answer_listed, answer_shown, answer_together}
+use Rattle.command_input.specs.Input.{Input, Wanted, a_calendar, a_covering, a_set, an_order, nothing}
 use Rattle.command_words.specs.Words.{command_of}
 use Rattle.command_words.specs.declared.command.Command.{Command}
-use Rattle.command_words.specs.declared.command.Command.TheVariants.{Unknown, Sun, Order, Plain, Table, Cover, Check, Demo}
+use Rattle.command_words.specs.declared.command.Command.TheVariants.{Unknown, Sun, Order, Plain, Table, Cover, Check, Demo, Ical, Agenda, Set}
 use Rattle.demo_summary.specs.Demo.{demo_asked}
 use Rattle.demo_summary.specs.Summary.{summary_line}
+use Rattle.order_calendar.specs.Calendar.{calendar_of}
 use Rattle.order_covering.specs.Covering.{covering_of}
 use Rattle.order_covering.specs.declared.form.Form.{Form}
 use Rattle.order_reader.specs.Asked.{Asked}
 use Rattle.order_reader.specs.Line.{order_line}
 use Rattle.order_table.specs.Trees.{table_of, undecided}
 use Rattle.outcome.specs.Answer.{Answer, finished, usage_answer}
+use Rattle.set_reader.specs.Asked.{SetAsked}
+use Rattle.set_table.specs.Trees as sets
 use Rattle.shown_table.specs.Shown.{shown_answer}
 use Rattle.sun_verdict.specs.Line.{undecided_in, verdict_line}
 use Rattle.sun_verdict.specs.declared.request.Request.{Request}
@@ -23,7 +27,10 @@ wanted_by Order = an_order
 wanted_by Plain = an_order
 wanted_by (Table workers) = an_order
 wanted_by (Cover workers form) = an_order
+wanted_by (Ical workers) = an_order
 wanted_by Check = a_covering
+wanted_by Agenda = a_calendar
+wanted_by (Set workers) = a_set
 wanted_by command = nothing
 
 -- the line of the verdict
@@ -42,6 +49,14 @@ table_answer o = finished (undecided o) (table_of o)
 abbrev pub covering_answer : Form → Asked → Answer
 covering_answer form o = finished (undecided o) (covering_of form o)
 
+-- the calendar, whoever searches it
+abbrev pub calendar_answer : Asked → Answer
+calendar_answer o = finished (undecided o) (calendar_of o)
+
+-- the table of a set, whoever searches it
+abbrev pub set_answer : SetAsked → Answer
+set_answer s = finished (sets.undecided s) (sets.table_of s)
+
 -- the summary of the order that is made of a number
 abbrev pub demo_answer : ℕ → Answer
 demo_answer number = finished (undecided (demo_asked number)) (summary_line number)
@@ -55,6 +70,9 @@ answer_to (Table workers) input = answer_by table_answer input
 answer_to (Cover workers form) input = answer_by (covering_answer form) input
 answer_to Check input = answer_shown shown_answer input
 answer_to (Demo number workers) input = demo_answer number
+answer_to (Ical workers) input = answer_by calendar_answer input
+answer_to Agenda input = answer_listed agenda_answer input
+answer_to (Set workers) input = answer_together set_answer input
 
 -- the answer to the words behind the program's name and to the input
 abbrev pub answer_of : List (List ℕ) → Input → Answer

@@ -1,17 +1,22 @@
 -- What follows from a run's ending for its words, its input and its streams.
 use Rattle.std.specs.Prelude.{◌≡◌, ◌≢◌, ◌⊎◌, ℕ, List, [], Some, None, Ok, Err}
-use Rattle.command_input.specs.Input.{Input, IsSpelled, a_covering, an_order, covering, nothing, order, read, too_long}
+use Rattle.command_input.specs.Input.{Input, IsSpelled, ReadsCalendar, Wanted, a_calendar, a_covering, a_set, an_order, calendar, covering, nothing, order, read, set, too_long}
+use Rattle.order_calendar.specs.Calendar.{calendar_of, events_of}
 use Rattle.order_reader.specs.Asked.{Asked}
 use Rattle.order_reader.specs.Reads.{ReadsOrder}
 use Rattle.outcome.specs.Answer.{line_of}
 use Rattle.outcome.specs.Ends.{EndsAs, Reports}
 use Rattle.outcome.specs.Streams.{Streams}
 use Rattle.outcome.specs.declared.status.Status.{Status}
-use Rattle.outcome.specs.declared.status.Status.TheVariants.{Done, Open, Usage, OrderRefused, ReadFault, WriteFault, NoMemory, CoverRefused}
+use Rattle.outcome.specs.declared.status.Status.TheVariants.{Done, Open, Usage, OrderRefused, ReadFault, WriteFault, NoMemory, CoverRefused, IcalRefused}
 use Rattle.source_sink.specs.Outside.{Rose, Adds}
 use Rattle.source_sink.specs.Reading.{IsReadToEnd}
 use Rattle.demo_summary.specs.Demo.{demo_asked}
 use Rattle.order_table.specs.Table.{days_undecided}
+use Rattle.set_reader.specs.Asked.{SetAsked}
+use Rattle.set_reader.specs.Reads.{ReadsSet}
+use Rattle.set_table.specs.RightSet.{IsRightSet}
+use Rattle.set_table.specs.Trees.{undecided as set_undecided}
 use Rattle.shown_table.specs.Shown.{shown_table}
 use Rattle.sun_verdict.specs.Line.{undecided_in}
 use Rattle.timetable.specs.Answer.{answer_to, wanted_by}
@@ -19,28 +24,40 @@ use Rattle.timetable.specs.Ended.{Ended}
 use Rattle.order_table.specs.RightTable.{IsRightTable}
 use Rattle.order_table.specs.Trees.{undecided}
 use Rattle.command_words.specs.declared.command.Command.{Command}
-use Rattle.command_words.specs.declared.command.Command.TheVariants.{Unknown, Sun, Plain, Table, Cover, Check, Demo}
+use Rattle.command_words.specs.declared.command.Command.TheVariants.{Unknown, Sun, Plain, Table, Cover, Check, Demo, Ical, Set}
 
 -- ---- words and inputs
 
 abbrev pub ReadsItsSource : Command → Type 0
 ReadsItsSource command = wanted_by command ≢ nothing
 
+-- an order of one district, or of a set of them
+abbrev pub IsOfOrders : Wanted → Type 0
+IsOfOrders an_order = Unit {0}
+IsOfOrders a_set = Unit {0}
+IsOfOrders wanted = ⊥
+
 abbrev pub ReadsAnOrder : Command → Type 0
-ReadsAnOrder command = wanted_by command ≡ an_order
+ReadsAnOrder command = IsOfOrders (wanted_by command)
 
 abbrev pub ReadsACovering : Command → Type 0
 ReadsACovering command = wanted_by command ≡ a_covering
 
--- the input is an order
+abbrev pub ReadsACalendar : Command → Type 0
+ReadsACalendar command = wanted_by command ≡ a_calendar
+
+-- the input is an order, of one district or of a set of them
 abbrev pub IsAnOrder : Input → Type 0
 IsAnOrder (order (read (Ok o))) = Unit {0}
+IsAnOrder (set (read (Ok s))) = Unit {0}
 IsAnOrder input = ⊥
 
 -- the input is no order, or too long for one
 abbrev pub IsNoOrder : Input → Type 0
 IsNoOrder (order too_long) = Unit {0}
 IsNoOrder (order (read (Err fault))) = Unit {0}
+IsNoOrder (set too_long) = Unit {0}
+IsNoOrder (set (read (Err fault))) = Unit {0}
 IsNoOrder input = ⊥
 
 -- the input is a covering without a bad line
@@ -55,6 +72,17 @@ IsNoCovering (covering (read (Err fault))) = Unit {0}
 IsNoCovering (covering (read (Ok c))) = (shown_table c.order c.lines).bad ≢ None
 IsNoCovering input = ⊥
 
+-- the input is a calendar
+abbrev pub IsACalendar : Input → Type 0
+IsACalendar (calendar (read (Ok events))) = Unit {0}
+IsACalendar input = ⊥
+
+-- the input is no calendar, or too long for one
+abbrev pub IsNoCalendar : Input → Type 0
+IsNoCalendar (calendar too_long) = Unit {0}
+IsNoCalendar (calendar (read (Err fault))) = Unit {0}
+IsNoCalendar input = ⊥
+
 -- how many entries or verdicts of the answer are undecided
 abbrev pub undecided_by : Command → Input → ℕ
 undecided_by (Sun r) input = undecided_in r
@@ -63,6 +91,8 @@ undecided_by (Table workers) (order (read (Ok o))) = undecided o
 undecided_by (Cover workers form) (order (read (Ok o))) = undecided o
 undecided_by Check (covering (read (Ok c))) = days_undecided (shown_table c.order c.lines).days
 undecided_by (Demo number workers) input = undecided (demo_asked number)
+undecided_by (Ical workers) (order (read (Ok o))) = undecided o
+undecided_by (Set workers) (set (read (Ok s))) = set_undecided s
 undecided_by command input = 0
 
 -- ---- laws
@@ -116,21 +146,41 @@ WrongCoveringsAreRefused =
     (status ≡ CoverRefused) ⊎ ((status ≡ ReadFault) × Rose before.source.faults after.source.faults)
     ⊎ ((status ≡ WriteFault) × Rose before.out.faults after.out.faults) ⊎ (status ≡ NoMemory)
 
--- Right words, and an order or a covering where the command reads one, are answered where no fault was counted, want of memory aside.
+-- IcalRefused is answered only by a command that reads a calendar, to an input that is none, and nothing is written.
+pub record IsIcalRefused (command : Command) (input : Input) (before after : Streams) : Type 0 where
+  pub reads : ReadsACalendar command
+  pub cause : IsNoCalendar input
+  pub unwritten : Adds before.out.bytes after.out.bytes []
+
+abbrev pub CalendarsAreRefusedForCause : Type 0
+CalendarsAreRefusedForCause =
+    (command : Command) (before after : Streams) → (run : Ended command IcalRefused before after) → IsIcalRefused command run.input before after
+
+-- Such a command answers IcalRefused to each input that is no calendar, a read fault that was counted and want of memory aside.
+abbrev pub WrongCalendarsAreRefused : Type 0
+WrongCalendarsAreRefused =
+    (command : Command) (status : Status) (before after : Streams) → (run : Ended command status before after) →
+    ReadsACalendar command → IsNoCalendar run.input →
+    (status ≡ IcalRefused) ⊎ ((status ≡ ReadFault) × Rose before.source.faults after.source.faults) ⊎ (status ≡ NoMemory)
+
+-- Right words, and an order, a covering or a calendar where the command reads one, are answered where no fault was counted, want of
+-- memory aside.
 abbrev pub RightWordsAreAnswered : Type 0
 RightWordsAreAnswered =
     (command : Command) (status : Status) (before after : Streams) → (run : Ended command status before after) →
     command ≢ Unknown → (ReadsAnOrder command → IsAnOrder run.input) → (ReadsACovering command → IsACovering run.input) →
+    (ReadsACalendar command → IsACalendar run.input) →
     (Rose before.source.faults after.source.faults → ⊥) → (Rose before.out.faults after.out.faults → ⊥) →
     (status ≡ Done) ⊎ (status ≡ Open) ⊎ (status ≡ NoMemory)
 
--- A run that is Done or Open took right words, read its source to the end and an order or a covering there where its command
--- reads one, and wrote the whole text; it is Done exactly where nothing in it is undecided.
+-- A run that is Done or Open took right words, read its source to the end and an order, a covering or a calendar there where its
+-- command reads one, and wrote the whole text; it is Done exactly where nothing in it is undecided.
 pub record IsFinished (command : Command) (status : Status) (input : Input) (before after : Streams) : Type 0 where
   pub words : command ≢ Unknown
   pub read_through : ReadsItsSource command → IsReadToEnd before.source.bytes after.source.bytes
   pub accepted : ReadsAnOrder command → IsAnOrder input
   pub shown : ReadsACovering command → IsACovering input
+  pub listed : ReadsACalendar command → IsACalendar input
   pub written : Adds before.out.bytes after.out.bytes (answer_to command input).text
   pub decided : status ≡ Done → undecided_by command input ≡ 0
   pub undecided : status ≡ Open → undecided_by command input ≢ 0
@@ -153,3 +203,12 @@ ToldBytesDecide =
 -- The table of every order is right.
 abbrev pub TablesAreRight : Type 0
 TablesAreRight = (bytes : List ℕ) (o : Asked) → ReadsOrder bytes (Ok o) → IsRightTable o
+
+-- The table of every set is right.
+abbrev pub SetsAreRight : Type 0
+SetsAreRight = (bytes : List ℕ) (s : SetAsked) → ReadsSet bytes (Ok s) → IsRightSet s
+
+-- The calendar that is written for an order is read as exactly the minutes of the order's table, in order, each with its moment, its
+-- column's word and its UID.
+abbrev pub CalendarsAreReadAgain : Type 0
+CalendarsAreReadAgain = (bytes : List ℕ) (o : Asked) → ReadsOrder bytes (Ok o) → ReadsCalendar (calendar_of o) (Ok (events_of o))

@@ -5,9 +5,9 @@ use Rattle.order_reader.specs.Asked.{Asked}
 use Rattle.order_table.specs.RightTable.{IsRightTable}
 use Rattle.outcome.specs.Streams.{Streams}
 use Rattle.outcome.specs.declared.status.Status.{Status}
-use Rattle.outcome.specs.declared.status.Status.TheVariants.{Done, Open, Usage, OrderRefused, NoMemory}
+use Rattle.outcome.specs.declared.status.Status.TheVariants.{Done, Open, Usage, OrderRefused, NoMemory, IcalRefused}
 use Rattle.timetable.specs.Answer.{wanted_by}
-use Rattle.timetable.specs.Laws.{EndedBy, IsACovering, IsAnOrder, IsFinished, IsNoOrder, IsRefused, IsUsage, ReadsACovering, ReadsAnOrder}
+use Rattle.timetable.specs.Laws.{EndedBy, IsACalendar, IsACovering, IsAnOrder, IsFinished, IsNoCalendar, IsNoOrder, IsRefused, IsUsage, ReadsACalendar, ReadsACovering, ReadsAnOrder}
 use Rattle.command_words.specs.declared.command.Command.{Command}
 use Rattle.command_words.specs.declared.command.Command.TheVariants.{Unknown}
 
@@ -18,8 +18,10 @@ pub record KeepsTheLaws (command : Command) (bytes : List ℕ) (status : Status)
   pub refused : status ≡ OrderRefused → (input : Input) → IsSpelled (wanted_by command) bytes input → IsRefused command input before after
   pub wrong_order : ReadsAnOrder command → (input : Input) → IsSpelled (wanted_by command) bytes input → IsNoOrder input →
       (status ≡ OrderRefused) ⊎ (status ≡ NoMemory)
+  pub wrong_calendar : ReadsACalendar command → (input : Input) → IsSpelled (wanted_by command) bytes input → IsNoCalendar input →
+      (status ≡ IcalRefused) ⊎ (status ≡ NoMemory)
   pub answered : command ≢ Unknown → (input : Input) → IsSpelled (wanted_by command) bytes input → (ReadsAnOrder command → IsAnOrder input) →
-      (ReadsACovering command → IsACovering input) →
+      (ReadsACovering command → IsACovering input) → (ReadsACalendar command → IsACalendar input) →
       (status ≡ Done) ⊎ (status ≡ Open) ⊎ (status ≡ NoMemory)
   pub finished : (status ≡ Done) ⊎ (status ≡ Open) → (input : Input) → IsSpelled (wanted_by command) bytes input →
       IsFinished command status input before after

@@ -1,6 +1,6 @@
 // Runs over memory that meet the premises of each law on words and inputs.
 ghost use Rattle.std.specs.Prelude.{◌≡◌, ◌<◌, ◌⊎◌, IfOk, length};
-ghost use Rattle.command_input.specs.Input.{an_order, limit_of};
+ghost use Rattle.command_input.specs.Input.{a_calendar, an_order, limit_of};
 
 use crate::memory::run_in_memory;
 use no_memory::NoMemory;
@@ -28,6 +28,21 @@ pub fn long_order(
     ensures { IfOk result (λ status. (status ≡ Status.OrderRefused) ⊎ (status ≡ Status.NoMemory)) }
 {
     let words = [String::from_str(alloc, "order")?];
+    let mut source = SureSource::new(bytes);
+    Ok(run_in_memory(alloc, &words, &mut source, out, err))
+}
+
+/// More bytes than a calendar may have: they are refused, want of memory aside.
+pub fn long_calendar(
+    alloc: Global,
+    bytes: Vec<u8>,
+    out: &mut SureSink,
+    err: &mut SureSink,
+) -> Result<Status, NoMemory>
+    requires { limit_of a_calendar < length bytes.items }
+    ensures { IfOk result (λ status. (status ≡ Status.IcalRefused) ⊎ (status ≡ Status.NoMemory)) }
+{
+    let words = [String::from_str(alloc, "agenda")?];
     let mut source = SureSource::new(bytes);
     Ok(run_in_memory(alloc, &words, &mut source, out, err))
 }

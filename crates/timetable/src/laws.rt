@@ -1,5 +1,5 @@
 // What follows from how a run ended. Each law is the contract of a function that does nothing.
-ghost use Rattle.timetable.specs.Laws.{CoveringsAreRefusedForCause, FinishedRunsWroteTheAnswer, OrdersAreRefusedForCause, RightWordsAreAnswered, TablesAreRight, ToldBytesDecide, UsageIsForWrongWords, WrongCoveringsAreRefused, WrongOrdersAreRefused, WrongWordsAreRefused};
+ghost use Rattle.timetable.specs.Laws.{CalendarsAreReadAgain, CalendarsAreRefusedForCause, CoveringsAreRefusedForCause, FinishedRunsWroteTheAnswer, OrdersAreRefusedForCause, RightWordsAreAnswered, SetsAreRight, TablesAreRight, ToldBytesDecide, UsageIsForWrongWords, WrongCalendarsAreRefused, WrongCoveringsAreRefused, WrongOrdersAreRefused, WrongWordsAreRefused};
 
 /// A run is ended by `Usage` only where the words are wrong.
 pub fn usage_is_for_wrong_words()
@@ -32,13 +32,23 @@ pub fn wrong_coverings_are_refused()
     ensures { WrongCoveringsAreRefused }
 {}
 
-/// Right words, with an order or a covering where the command reads one, are answered by `Done` or `Open` where no fault was counted,
+/// A run is ended by `IcalRefused` only where its command reads a calendar and its input is none; nothing is written.
+pub fn calendars_are_refused_for_cause()
+    ensures { CalendarsAreRefusedForCause }
+{}
+
+/// An input that is no calendar is refused by a command that reads one, a read fault and want of memory aside.
+pub fn wrong_calendars_are_refused()
+    ensures { WrongCalendarsAreRefused }
+{}
+
+/// Right words, with an order, a covering or a calendar where the command reads one, are answered by `Done` or `Open` where no fault was counted,
 /// want of memory aside.
 pub fn right_words_are_answered()
     ensures { RightWordsAreAnswered }
 {}
 
-/// `Done` and `Open` say that the words are right, the input is an order or a covering where the command reads one and was
+/// `Done` and `Open` say that the words are right, the input is an order, a covering or a calendar where the command reads one and was
 /// read to its end, and the whole text was written; `Done` exactly where nothing in it is undecided.
 pub fn finished_runs_wrote_the_answer()
     ensures { FinishedRunsWroteTheAnswer }
@@ -52,4 +62,15 @@ pub fn told_bytes_decide()
 /// The entries of the table of every order are right, or open as said.
 pub fn tables_are_right()
     ensures { TablesAreRight }
+{}
+
+/// The entries of the table of every set are right, or open as said.
+pub fn sets_are_right()
+    ensures { SetsAreRight }
+{}
+
+/// The calendar that `ical` writes for an order is read by `agenda` as exactly the minutes of the order's table, in order, each with
+/// its moment in Universal Time, its column's word and its UID.
+pub fn calendars_are_read_again()
+    ensures { CalendarsAreReadAgain }
 {}

@@ -9,7 +9,8 @@ ghost use Rattle.shown_table.specs.Shown.{shown_answer};
 ghost use Rattle.timetable.specs.Answer.{answer_to, wanted_by};
 
 use crate::orders::write_line;
-use command_input::{Covering, covering_from, order_from};
+use agenda_list::write_agenda;
+use command_input::{Covering, calendar_from, covering_from, order_from};
 use command_words::{Command, command_in};
 use order_table::write_table;
 use outcome::{Ending, Status, ending_of};
@@ -45,9 +46,12 @@ pub(crate) fn answer<S: Source, K: Sink>(
         (stream (K.held out.old) (K.faults out.old)) (stream (K.held out.new) (K.faults out.new)) }
 {
     match command {
-        Command::Unknown | Command::Table { .. } | Command::Cover { .. } | Command::Demo { .. } => {
-            Ending::Plain(Status::Usage)
-        }
+        Command::Unknown
+        | Command::Table { .. }
+        | Command::Cover { .. }
+        | Command::Demo { .. }
+        | Command::Ical { .. }
+        | Command::Set { .. } => Ending::Plain(Status::Usage),
         Command::Sun(request) => ending_of(write_verdict(alloc, &request, out)),
         Command::Order => match order_from(alloc, source) {
             Ok(order) => ending_of(write_line(alloc, &order, out)),
@@ -59,6 +63,10 @@ pub(crate) fn answer<S: Source, K: Sink>(
         },
         Command::Check => match covering_from(alloc, source) {
             Ok(covering) => show(alloc, covering, out),
+            Err(ending) => ending,
+        },
+        Command::Agenda => match calendar_from(alloc, source) {
+            Ok(events) => ending_of(write_agenda(alloc, &events, out)),
             Err(ending) => ending,
         },
     }

@@ -8,14 +8,16 @@ ghost use Rattle.outcome.specs.Streams.{stream, streams};
 ghost use Rattle.sun_verdict.specs.Truth.{IsTrueOfSky};
 ghost use Rattle.timetable.specs.Answer.{answer_to, wanted_by};
 ghost use Rattle.timetable.specs.Ended.{Ended};
-ghost use Rattle.timetable.specs.Headline.{Checked, Headline};
+ghost use Rattle.timetable.specs.Headline.{Checked, Headline, Published, Together};
 
 use crate::one_thread;
-use command_input::order_from;
+use command_input::{order_from, set_from};
 use command_words::{Command, command_in};
 use demo_summary::write_summary;
+use order_calendar::write_calendar;
 use order_covering::write_covering;
 use outcome::{Ending, Status, ending_of};
+use set_table::write_set;
 use source_sink::{Sink, Source, write_all};
 use std::alloc::Global;
 use std::sync::Wait;
@@ -47,11 +49,23 @@ fn answer<R: Threads + Wait + Sync, S: Source, K: Sink, G: Gate + Sync>(
             Ok(order) => ending_of(write_covering(rt, alloc, order, workers, form, gate, out)),
             Err(ending) => ending,
         },
+        Command::Ical { workers } => match order_from(alloc, source) {
+            Ok(order) => ending_of(write_calendar(rt, alloc, order, workers, gate, out)),
+            Err(ending) => ending,
+        },
+        Command::Set { workers } => match set_from(alloc, source) {
+            Ok(set) => ending_of(write_set(rt, alloc, set, workers, gate, out)),
+            Err(ending) => ending,
+        },
         Command::Demo { number, workers } => {
             ending_of(write_summary(rt, alloc, number, workers, gate, out))
         }
-        Command::Unknown | Command::Sun(_) | Command::Order | Command::Plain | Command::Check =>
-            one_thread::answer(alloc, command, source, out),
+        Command::Unknown
+        | Command::Sun(_)
+        | Command::Order
+        | Command::Plain
+        | Command::Check
+        | Command::Agenda => one_thread::answer(alloc, command, source, out),
     }
 }
 
@@ -83,8 +97,8 @@ fn report<E: Sink>(ending: &Ending, err: &mut E) -> Status
     ending.status()
 }
 
-/// Runs the words of a command line, without the program's name; `table`, `cover` and `demo` are searched by several workers at
-/// the same time.
+/// Runs the words of a command line, without the program's name; `table`, `cover`, `demo`, `ical` and `set` are searched by
+/// several workers at the same time.
 ///
 /// The text goes to `out`, and for each status from `Usage` on one line goes to `err`. Each worker calls the gate before each
 /// cell that it judges. The call may wait for its workers.
@@ -99,6 +113,20 @@ pub fn run<R: Threads + Wait + Sync, S: Source, K: Sink, E: Sink, G: Gate + Sync
 ) -> Status
     // Where it prints a table, each of its entries is right at every rational place of the district.
     ensures headline { Headline (command_of (map string_bytes words.now)) result
+        (streams (stream (S.left source.old) (S.faults source.old)) (stream (K.held out.old) (K.faults out.old))
+        (stream (E.held err.old) (E.faults err.old)))
+        (streams (stream (S.left source.new) (S.faults source.new)) (stream (K.held out.new) (K.faults out.new))
+        (stream (E.held err.new) (E.faults err.new))) }
+
+    // Where it writes a calendar, that is read as exactly the minutes of a table each of whose entries is right.
+    ensures published { Published (command_of (map string_bytes words.now)) result
+        (streams (stream (S.left source.old) (S.faults source.old)) (stream (K.held out.old) (K.faults out.old))
+        (stream (E.held err.old) (E.faults err.old)))
+        (streams (stream (S.left source.new) (S.faults source.new)) (stream (K.held out.new) (K.faults out.new))
+        (stream (E.held err.new) (E.faults err.new))) }
+
+    // Where it prints the table of a set, each of its entries is right for its district, or for all of them.
+    ensures together { Together (command_of (map string_bytes words.now)) result
         (streams (stream (S.left source.old) (S.faults source.old)) (stream (K.held out.old) (K.faults out.old))
         (stream (E.held err.old) (E.faults err.old)))
         (streams (stream (S.left source.new) (S.faults source.new)) (stream (K.held out.new) (K.faults out.new))

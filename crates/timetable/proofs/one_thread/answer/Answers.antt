@@ -1,7 +1,7 @@
 use Rattle.std.proofs.Common.{ap, inl, inr, refl}
 use Rattle.command_words.specs.Words.{without_workers}
 use Rattle.command_words.specs.declared.command.Command.TheVariants.{Order, Plain}
-use Rattle.timetable.proofs.AnswerLemmas.{check_answers, check_refuses, read_answers, read_refuses, sun_answers, unknown_answers}
+use Rattle.timetable.proofs.AnswerLemmas.{agenda_answers, agenda_refuses, check_answers, check_refuses, read_answers, read_refuses, sun_answers, unknown_answers}
 use Rattle.timetable.specs.Answer.{order_answer, table_answer}
 use Rattle.timetable.proofs.one_thread.answer.Goals as goal
 
@@ -11,7 +11,13 @@ returns-in-Unknown g c =
       | inl unknown ↦ ap without_workers unknown
       | inr more ↦ elim more [
         | inl table ↦ ap without_workers table.1
-        | inr two ↦ elim two [ inl cover ↦ ap without_workers cover.2 | inr demo ↦ ap without_workers demo.2 ]
+        | inr two ↦ elim two [
+          | inl cover ↦ ap without_workers cover.2
+          | inr three ↦ elim three [
+            | inl demo ↦ ap without_workers demo.2
+            | inr four ↦ elim four [ inl ical ↦ ap without_workers ical.1 | inr set ↦ ap without_workers set.1 ]
+          ]
+        ]
       ]
     ])
 
@@ -42,3 +48,11 @@ returns-in-Ok-covering_from g c =
 
 pub returns-in-Err-covering_from : goal.returns-in-Err-covering_from
 returns-in-Err-covering_from g c = check_refuses _ _ _ _ _ (ap without_workers c.in-Check.is) c.in-Err-covering_from.ensures
+
+pub returns-in-Ok-calendar_from : goal.returns-in-Ok-calendar_from
+returns-in-Ok-calendar_from g c =
+    agenda_answers _ c.in-Ok-calendar_from.events c.write_agenda.result _ _ _ _ _ (ap without_workers c.in-Agenda.is) c.in-Ok-calendar_from.ensures.taken
+    c.write_agenda.ensures.writes c.write_agenda.ensures.count c.ending_of-in-Ok-calendar_from.ensures
+
+pub returns-in-Err-calendar_from : goal.returns-in-Err-calendar_from
+returns-in-Err-calendar_from g c = agenda_refuses _ _ _ _ _ (ap without_workers c.in-Agenda.is) c.in-Err-calendar_from.ensures.taken

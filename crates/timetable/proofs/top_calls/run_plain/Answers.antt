@@ -1,6 +1,6 @@
 use Rattle.std.proofs.Common.{map, refl, string_bytes, subst}
 use Rattle.command_words.proofs.RangeLemmas.{commands_are_in_range}
-use Rattle.command_words.specs.Words.{IsCommand, command_of}
+use Rattle.command_words.specs.Words.{IsCommand}
 use Rattle.sun_verdict.proofs.TruthLemmas.{is_true_of_sky}
 use Rattle.timetable.proofs.AnswerLemmas.{ended_by}
 use Rattle.timetable.proofs.HeadlineLemmas.{checked, headline}
