@@ -5,12 +5,10 @@
 #[cfg(test)]
 mod common;
 #[cfg(test)]
-mod coverings;
+mod nights;
 #[cfg(test)]
 mod orders;
 #[cfg(test)]
 mod sun;
 #[cfg(test)]
 mod tables;
-#[cfg(test)]
-mod workers;

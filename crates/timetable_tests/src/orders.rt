@@ -1,5 +1,6 @@
 // The command `order`: the canonical line of an order, and the first refusal of what is none.
-use crate::common::{ORDER_A, ORDER_B, expect, order_over, run, sink, source};
+use crate::common::{expect, run};
+use run_samples::{ORDER_A, ORDER_B, order_over, sink, source};
 use source_sink::MemSource;
 use std::process::Abort;
 use std::test::Fail;
@@ -248,5 +249,19 @@ fn a_failed_read_ends_the_run(rt: HostRuntime) -> Result<(), Fail> {
     assert_eq!(rt; status, Status::ReadFault);
     assert_eq!(rt; out.bytes(), b"".as_slice());
     assert_eq!(rt; err.bytes(), b"read fault\n".as_slice());
+    Ok(())
+}
+
+#[test]
+fn a_failed_write_is_no_want_of_memory(rt: HostRuntime) -> Result<(), Fail> {
+    for (capacity, failing, written) in [(200, 1, ""), (200, 3, "{\""), (2, 9, "{\"")] {
+        let mut order = source(rt.alloc(), ORDER_B.as_bytes())?;
+        let mut out = sink(rt.alloc(), capacity, &[failing])?;
+        let mut err = sink(rt.alloc(), 200, &[])?;
+        let status = run(rt.alloc(), "order", &mut order, &mut out, &mut err)?;
+        assert_eq!(rt; status, Status::WriteFault);
+        assert_eq!(rt; out.bytes(), written.as_bytes());
+        assert_eq!(rt; err.bytes(), b"write fault\n".as_slice());
+    }
     Ok(())
 }

@@ -1,12 +1,13 @@
 // The command `sun`: its words, its line and its sinks.
-use crate::common::{expect, run, sink, source};
+use crate::common::{expect, run};
+use run_samples::{sink, source};
 use std::test::Fail;
 use timetable::Status;
 
 const LINE: &str = "minute 0 lon 0.000000 lat 0.000000 angle 0.000000 above\n";
 
 const USAGE: &str =
-    "usage: timetable table [--workers W] | cover [--workers W] [--form F] | demo [--number M] [--workers W] | plain | check | order | sun MINUTE LON LAT WHAT\n";
+    "usage: timetable table [--workers W] | cover [--workers W] [--form F] | demo [--number M] [--workers W] | plain | check | order | sun MINUTE LON LAT WHAT [meeus] | set [--workers W] | ical [--workers W] | agenda\n";
 
 const WRONG_WORDS: [&str; 36] = [
     "",

@@ -1,5 +1,6 @@
 // The command `plain`: the table of an order, its entries, its sources and sinks.
-use crate::common::{ORDER_B, TABLE_B, expect, order_over, run, sink, source};
+use crate::common::{expect, run};
+use run_samples::{ORDER_B, TABLE_B, order_over, sink, source};
 use source_sink::MemSource;
 use std::alloc::{AllocError, Global};
 use std::process::Abort;

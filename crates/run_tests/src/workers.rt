@@ -1,5 +1,5 @@
 // The command `table`: its words, its bytes whatever the number of workers, and that workers begin at the same time.
-use crate::common::{ORDER_B, TABLE_B, order_over, sink, source};
+use run_samples::{ORDER_B, TABLE_B, order_over, sink, source, words_of};
 use source_sink::MemSink;
 use std::process::Abort;
 use std::sync::Wait;
@@ -25,10 +25,7 @@ fn table_by<R: Threads + Wait + Sync + AllocGlobal, G: Gate + Sync>(
     gate: &G,
 ) -> Result<(Status, MemSink), Fail> {
     let alloc = rt.alloc();
-    let mut words = Vec::new(alloc);
-    for word in line.split_whitespace() {
-        words.push(String::from_str(alloc, word)?)?;
-    }
+    let words = words_of(alloc, line)?;
     let mut source = source(alloc, order.as_bytes())?;
     let mut out = sink(alloc, 4000, &[])?;
     let mut err = sink(alloc, 200, &[])?;

@@ -1,14 +1,13 @@
 // The commands `cover`, `check` and `demo`.
-use crate::common::{ORDER_B, TABLE_B, order_over, sink, source};
+use crate::common::answer;
 use crate::workers::{DISTRICT, MEMBERS};
-use source_sink::MemSink;
+use run_samples::{ORDER_B, TABLE_B, order_over};
 use std::alloc::{AllocError, Global};
 use std::process::Abort;
 use std::sync::Wait;
 use std::test::Fail;
 use std::thread::Threads;
-use steal_pool::OpenGate;
-use timetable::{Status, run};
+use timetable::Status;
 
 /// The covering of one place and one day, its letters one by one.
 const COVERING_B: [&str; 8] = [
@@ -74,32 +73,6 @@ fn covering_with(alloc: Global, number: usize, line: &str) -> Result<String, All
         }
     }
     Ok(text)
-}
-
-/// The status of a line of words over an input, and what it writes to each stream.
-fn answer<R: Threads + Wait + Sync + AllocGlobal>(
-    rt: &R,
-    line: &str,
-    input: &[u8],
-) -> Result<(Status, MemSink, MemSink), Fail> {
-    let alloc = rt.alloc();
-    let mut words = Vec::new(alloc);
-    for word in line.split_whitespace() {
-        words.push(String::from_str(alloc, word)?)?;
-    }
-    let mut source = source(alloc, input)?;
-    let mut out = sink(alloc, 60_000, &[])?;
-    let mut err = sink(alloc, 200, &[])?;
-    let status = run(
-        rt,
-        alloc,
-        &words,
-        &mut source,
-        &mut out,
-        &mut err,
-        &OpenGate,
-    );
-    Ok((status, out, err))
 }
 
 #[test]

@@ -1,0 +1,109 @@
+// A city of 300 positions, its tables under both suns, and the order that a number makes.
+use crate::common::{answer, expect};
+use demo_summary::demo_order;
+use order_reader::order_line;
+use run_samples::order_over;
+use std::alloc::{AllocError, Global};
+use std::test::Fail;
+use timetable::Status;
+
+const MEMBERS: &str = r#""from":"2025-02-22","days":7,"method":"mwl","asr":"standard","zone":180"#;
+
+const TABLE: &str = "prayer timetable 1
+from 2025-02-22 days 7 method mwl asr standard zone 180 positions 300
+date         fajr  f.end  dhuhr    asr   magh  m.end   isha
+2025-02-22  05:34  06:46  12:36  15:55  18:24  19:31  19:34
+2025-02-23  05:33  06:45  12:36  15:55  18:24  19:32  19:34
+2025-02-24  05:33  06:44  12:35  15:56  18:25  19:32  19:35
+2025-02-25  05:32  06:43  12:35  15:56  18:25  19:32  19:35
+2025-02-26  05:31  06:43  12:35  15:56  18:25  19:33  19:35
+2025-02-27  05:30  06:42  12:35  15:56  18:26  19:33  19:36
+2025-02-28  05:30  06:41  12:35  15:56  18:26  19:33  19:36
+end days 7 open 0
+";
+
+const TABLE_OF_MEEUS: &str = "prayer timetable 1
+from 2025-02-22 days 7 method mwl asr standard zone 180 positions 300 sun meeus
+date         fajr  f.end  dhuhr    asr   magh  m.end   isha
+2025-02-22  05:34  06:46  12:36  15:55  18:24  19:31  19:34
+2025-02-23  05:33  06:45  12:36  15:55  18:24  19:32  19:34
+2025-02-24  05:33  06:44  12:35  15:56  18:25  19:32  19:34
+2025-02-25  05:32  06:43  12:35  15:56  18:25  19:32  19:35
+2025-02-26  05:31  06:43  12:35  15:56  18:25  19:33  19:35
+2025-02-27  05:30  06:42  12:35  15:56  18:26  19:33  19:36
+2025-02-28  05:30  06:41  12:35  15:56  18:26  19:33  19:36
+end days 7 open 0
+";
+
+/// A position in microdegrees, with an altitude.
+fn position(alloc: Global, x: u64, y: u64) -> Result<String, AllocError> {
+    format!(in alloc; "[{x}e-6,{y}e-6,277],")
+}
+
+/// A ring with teeth along both sides: this many positions to the east, as many back, and the first again.
+fn comb(
+    alloc: Global,
+    west: u32,
+    south: u32,
+    height: u32,
+    count: u32,
+) -> Result<String, AllocError> {
+    let mut ring = String::from_str(alloc, "[")?;
+    for i in 0..count {
+        let x = west as u64 + i as u64 * 3_000;
+        let y = south as u64 + height as u64 + i as u64 * 7919 % 9000;
+        ring.push_str(position(alloc, x, y)?.as_str())?;
+    }
+    for i in 0..count {
+        let x = west as u64 + count as u64 * 3_000 - i as u64 * 3_000;
+        let y = south as u64 + i as u64 * 7919 % 9000;
+        ring.push_str(position(alloc, x, y)?.as_str())?;
+    }
+    let y = south as u64 + height as u64;
+    let last = format!(in alloc; "[{west}e-6,{y}e-6]]")?;
+    ring.push_str(last.as_str())?;
+    Ok(ring)
+}
+
+/// An order for two parts of a city, each with a hole, 40 km from end to end.
+fn city(alloc: Global, members: &str) -> Result<String, AllocError> {
+    let west = comb(alloc, 39_540_000, 21_250_000, 250_000, 80)?;
+    let west_hole = comb(alloc, 39_590_000, 21_350_000, 80_000, 20)?;
+    let east = comb(alloc, 39_800_000, 21_230_000, 300_000, 40)?;
+    let east_hole = comb(alloc, 39_820_000, 21_300_000, 100_000, 8)?;
+    let parts = format!(in alloc; "[[{west},{west_hole}],[{east},{east_hole}]]")?;
+    let district = format!(in alloc;
+        "{{\"type\":\"FeatureCollection\",\"features\":[{{\"type\":\"Feature\",\"properties\":{{\"name\":\"city\"}},\"geometry\":{{\"type\":\"MultiPolygon\",\"coordinates\":{parts}}}}}]}}"
+    )?;
+    order_over(alloc, members, district.as_str())
+}
+
+#[test]
+fn a_city_gets_its_table_by_any_number_of_workers(rt: HostRuntime) -> Result<(), Fail> {
+    for (sun, table) in [("", TABLE), (",\"sun\":\"meeus\"", TABLE_OF_MEEUS)] {
+        let members = format!(in rt.alloc(); "{MEMBERS}{sun}")?;
+        let order = city(rt.alloc(), members.as_str())?;
+        for line in [
+            "plain",
+            "table --workers 1",
+            "table --workers 2",
+            "table --workers 16",
+        ] {
+            expect(&rt, line, order.as_bytes(), Status::Done, table, "")?;
+        }
+        let (_, covering, _) = answer(&rt, "cover", order.as_bytes())?;
+        expect(&rt, "check", covering.bytes(), Status::Done, table, "")?;
+    }
+    Ok(())
+}
+
+#[test]
+fn a_number_makes_its_order(rt: HostRuntime) -> Result<(), Fail> {
+    let order = demo_order(rt.alloc(), 1)?;
+    let line = order_line(rt.alloc(), &order)?;
+    let beginning =
+        r#"{"version":1,"from":"2025-01-27","days":30,"method":"tehran","asr":"hanafi","zone":60,"district":[[[[8106032,-33106032],[8096160,-33084140],"#;
+    assert!(rt; line.starts_with(beginning.as_bytes()));
+    let summary = "demo 1 positions 65 days 30 minutes 210 whole 0 never 0 open 0 sum 182588\n";
+    expect(&rt, "demo", b"", Status::Done, summary, "")
+}
