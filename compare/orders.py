@@ -4,9 +4,9 @@
 
 PROGRAM and REFERENCE are commands, each one argument; else they are ./timetable and reference/timetable.py. They are run
 with the word `order` on COUNT orders, of which about half are wrong somewhere, and with the word `plain` on a fifth as many
-right ones of few days and small districts. None asks for what isn't built yet, another sun or a rule of nights. Compared are
-the output, the error stream and the status. It prints what differs, and exits with 1 if anything did. The numbers of
-each status are printed last, to show what was met.
+right ones of few days and small districts. Some ask for the sun of Meeus, some for a rule of nights; half of the latter lie at
+latitudes from 45 to 65. Compared are the output, the error stream and the status. It prints what differs, and exits with 1 if
+anything did. The numbers of each status are printed last, to show what was met.
 """
 import collections
 import json
@@ -16,6 +16,7 @@ import sys
 from answers import answer, words_given
 
 METHODS = ['mwl', 'isna', 'egypt', 'karachi', 'makkah', 'tehran', 'jafari']
+NIGHTS = ['half', 'seventh', 'angle']
 RULES = ['UTC0', '<+03>-3', 'AAA-14', 'AAA12', 'CET-1CEST,M3.5.0,M10.5.0/3', 'EST5EDT,M3.2.0,M11.1.0',
          'EET-2EEST,M4.5.5/0,M10.5.4/24', '<-02>2<-01>,M3.5.0/-1,M10.5.0/0', 'AEST-10AEDT,M10.1.0,M4.1.0/3',
          'IST-1GMT0,M10.5.0,M3.5.0/1', 'AAA-3BBB-4,J60/0,J300/0', 'AAA-3BBB-4,59,364/167:59:59']
@@ -111,12 +112,14 @@ def shape(draw, polygons, plain=False):
     return table
 
 
-def district(draw, greatest, plain=False):
+def district(draw, greatest, plain=False, is_north=False):
     size = draw.choice([1, 16, 1_000, greatest // 10, greatest])
     west = draw.choice([draw.randint(-180_000_000, 180_000_000), 100_000, 360_000_000 - size, -360_000_000])
     south = draw.choice([draw.randint(-65_000_000, 65_000_000 - size), 0, -65_000_000, 65_000_000 - size])
     if plain:
         west, south = draw.randint(-180_000_000, 180_000_000), draw.randint(-65_000_000, 65_000_000 - size)
+    if is_north:
+        south = draw.choice([draw.randint(45_000_000, 65_000_000 - size), draw.randint(-65_000_000, -45_000_000 - size)])
     polygons = [polygon(draw, west, south, size)]
     while draw.random() < 0.3:
         polygons.append(polygon(draw, west, south, size))
@@ -132,7 +135,8 @@ def date(draw):
 
 def right_order(draw, plain):
     """The members of an order; one for a table is small."""
-    polygons = district(draw, 300_000 if plain else 4_194_304, plain)
+    night = draw.choice(NIGHTS) if draw.random() < 0.3 else None
+    polygons = district(draw, 300_000 if plain else 4_194_304, plain, night is not None and draw.random() < 0.5)
     method = draw.choice(METHODS)
     members = Table([
         ('from', date(draw)), ('days', draw.choice([1, 1, 2] if plain else [1, 2, Spelled('2.0e0')])),
@@ -147,8 +151,10 @@ def right_order(draw, plain):
         first = members[0][1]
         pairs = [[first, first]] if method == 'makkah' and draw.random() < 0.7 else []
         members.append(('late_isha', pairs))
-    if draw.random() < 0.1:
-        members.append(('sun', 'usno'))
+    if draw.random() < 0.4:
+        members.append(('sun', draw.choice(['usno', 'meeus', 'meeus'])))
+    if night:
+        members.append(('night', night))
     if draw.random() < 0.3:
         members.append((draw.choice(['version', 'x', 'From', 'districts']), draw.choice([7, None, [], Table()])))
     draw.shuffle(members)
@@ -170,7 +176,7 @@ LIMITS = {
     'late_isha': [None, [[]], [['2025-03-01']], [['2025-03-30', '2025-03-01']], [['2025-03-01', '2025-02-30']],
                   [['2025-03-01', '2025-03-30', '2025-03-30']], [['2025-03-01', '2025-03-01']] * 9,
                   [['2025-03-01', '2025-03-01']] * 8, [['2025-03-01', 1]], ['2025-03-01']],
-    'sun': ['moon', '', 1], 'night': ['third', '', None],
+    'sun': ['moon', 'Meeus', '', 1], 'night': ['third', 'Half', '', None],
     'district': [None, [], 7, Table(), Table([('type', 'Point'), ('coordinates', [39, 21])]),
                  Table([('type', 'Polygon'), ('coordinates', [])]), Table([('type', 'MultiPolygon'), ('coordinates', [])]),
                  Table([('type', 'MultiPolygon'), ('coordinates', [[]])]), Table([('type', 'Polygon'), ('coordinates', [[]])]),

@@ -3,7 +3,7 @@
     python3 compare/sun_lines.py COUNT [PROGRAM [REFERENCE [SEED]]]
 
 PROGRAM and REFERENCE are commands, each one argument; else they are ./timetable and reference/timetable.py. They are run
-with the words of `sun`. Compared are the output, the error stream and the status. The limits of each word are among them,
+with the words of `sun`, four in ten with the last word `meeus`. Compared are the output, the error stream and the status. The limits of each word are among them,
 and spellings with and without a point. It prints what differs, and exits with 1 if anything did.
 """
 import sys
@@ -36,7 +36,7 @@ def words(draw):
         choose(LONGITUDES, decimal(draw, -360, 360)),
         choose(LATITUDES, decimal(draw, -65, 65)),
         draw.choice(CONDITIONS) if draw.random() < 0.5 else choose(ANGLES, decimal(draw, 0, 30)),
-    ]
+    ] + ['meeus'] * (draw.random() < 0.4)
 
 
 def main():
