@@ -19,10 +19,11 @@ class Problem:
     shift: int
     base: int
     is_end: bool
+    sun: str
 
     def holds(self, minute, place):
         """The condition at a minute of the day's clock, without the shift, at a place in microdegrees."""
-        return self.side * sky.value(self.what, self.base + minute, place[0] / 1e6, place[1] / 1e6) > 0
+        return self.side * sky.value(self.what, self.base + minute, place[0] / 1e6, place[1] / 1e6, self.sun) > 0
 
     def crossing(self, place):
         """The moment at which the condition changes at a place, or None where it doesn't within the frame."""
@@ -39,7 +40,7 @@ class Problem:
 def problems(order, day):
     """The problems of a day, by column."""
     rows = sky.problems(order.method, order.asr, order.height, order.interval(day), order.noon(day))
-    return {column: Problem(*row, order.base(day), column in ('f.end', 'm.end')) for column, row in rows.items()}
+    return {column: Problem(*row, order.base(day), column in ('f.end', 'm.end'), order.sun) for column, row in rows.items()}
 
 
 def places(polygons):

@@ -95,12 +95,6 @@ def stop_on_wrong_members(order):
     stop_on_wrong_late(order.get('late_isha', []), order['method'])
 
 
-def refused(sun, night):
-    """What an order may ask for and today's program refuses, member by member: the sun meeus and each rule for nights."""
-    found = [('sun', sun)] if sun == 'meeus' else []
-    return found + [('night', night)] if night else found
-
-
 def whole(value):
     """A number spelled with a point or an exponent that is a whole one, as that."""
     if isinstance(value, Decimal) and -20 < value.adjusted() < 7 and value == int(value):

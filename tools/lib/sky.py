@@ -8,16 +8,30 @@ ANGLES = {'mwl': (18, 17, None), 'isna': (15, 15, None), 'egypt': (19.5, 17.5, N
           'makkah': (18.5, None, None), 'tehran': (17.7, 14, 4.5), 'jafari': (16, 14, 4)}
 
 
-def sun(k):
-    """Ecliptic longitude, obliquity and mean longitude, in radians."""
+def observatory(k):
+    """Of the US Naval Observatory's sun the ecliptic longitude, obliquity and mean longitude, in radians."""
     day = k / 1440
     g, q = radians(357.529 + 0.98560028 * day), 280.459 + 0.98564736 * day
     return radians(q + 1.915 * sin(g) + 0.020 * sin(2 * g)), radians(23.439 - 0.00000036 * day), radians(q)
 
 
-def value(what, k, lon, lat):
+def meeus(k):
+    """The same of Meeus's sun."""
+    T = k / 52_596_000
+    mean = 280.46646 + 36000.76983 * T + 0.0003032 * T * T
+    M = radians(357.52911 + 35999.05029 * T - 0.0001537 * T * T)
+    node = radians(125.04 - 1934.136 * T)
+    centre = (1.914602 - 0.004817 * T - 0.000014 * T * T) * sin(M) + (0.019993 - 0.000101 * T) * sin(2 * M) + 0.000289 * sin(3 * M)
+    tilt = 23 + 26 / 60 + (21.448 - 46.8150 * T - 0.00059 * T * T + 0.001813 * T ** 3) / 3600 + 0.00256 * cos(node)
+    return radians(mean + centre - 0.00569 - 0.00478 * sin(node)), radians(tilt), radians(mean - 0.0057183)
+
+
+SUNS = {'usno': observatory, 'meeus': meeus}
+
+
+def value(what, k, lon, lat, sun='usno'):
     """The altitude value of an angle, the meridian value, or the Asr value of ('shadow', factor)."""
-    L, e, q = sun(k)
+    L, e, q = SUNS[sun](k)
     theta, phi = radians(0.25 * k + lon) + q, radians(lat)
     if what == 'meridian':
         return sin(theta) * cos(L) - cos(theta) * cos(e) * sin(L)

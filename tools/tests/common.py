@@ -16,6 +16,8 @@ BUILT = [os.path.join(TOP, name) for name in ('built/timetable', 'crates/timetab
 REFERENCE = 'python3 ' + shlex.quote(os.path.join(TOP, 'reference/timetable.py'))
 PROGRAM = os.environ.get('TIMETABLE') or next((shlex.quote(path) for path in BUILT if os.access(path, os.X_OK)), REFERENCE)
 os.environ['TIMETABLE'] = PROGRAM
+# What the tools print is compared, also where the judge of borders is built.
+os.environ.setdefault('TIMETABLE_BORDER', '')
 SECONDS = 300
 
 

@@ -111,25 +111,16 @@ class OrderTest(ToolTest):
         for name in ('makkah.json', 'bahrain.json', 'najran.json', 'najran-city.json', 'qina-hole.json'):
             self.assertIn('mean noon 1', self.done('order', '--look', example(name))[1])
 
-    def test_what_the_program_refuses_today_is_written_and_warned_of(self):
-        for words, names in ((('--sun', 'usno'), []), (('--sun', 'meeus'), ['sun meeus']), (('--night', 'half'), ['night half']),
-                             (('--sun', 'meeus', '--night', 'angle'), ['sun meeus', 'night angle'])):
-            with self.subTest(words):
-                text, told = self.order(*WORDS, '--zone', '+03:00', *words)
-                made = self.write('made.json', text)
-                looked = self.done('order', '--look', made)[1]
-                for warned in (told, looked):
-                    self.assertEqual(re.findall('warning: (.*) is not built yet', warned), names)
-                self.assertEqual(json.loads(text).get('night'), words[-1] if '--night' in words else None)
-
-    @unittest.skipIf(PROGRAM == REFERENCE, 'the program is not built: what it refuses is not looked at')
-    def test_the_warning_of_what_is_refused_is_true(self):
+    def test_a_sun_and_a_rule_for_nights_are_written_and_taken(self):
         for sun in orders.SUNS:
             for night in (None, *orders.NIGHTS):
-                order = {**json.loads(read(example('makkah.json'))), 'sun': sun, **({'night': night} if night else {})}
                 with self.subTest(sun=sun, night=night):
-                    is_refused = self.canonical(self.write('o.json', json.dumps(order))) is None
-                    self.assertEqual(is_refused, bool(orders.refused(sun, night)))
+                    text, told = self.order(*WORDS, '--zone', '+03:00', '--sun', sun, *(('--night', night) if night else ()))
+                    self.assertEqual((json.loads(text)['sun'], json.loads(text).get('night')), (sun, night))
+                    self.assertNotIn('warning', told)
+                    made = self.write('made.json', text)
+                    self.assertIsNotNone(self.canonical(made))
+                    self.done('order', '--look', made)
 
     def test_members_that_the_program_passes_over_are_stopped(self):
         text = read(example('najran.json'))
@@ -158,7 +149,8 @@ class OrderTest(ToolTest):
                 read_here = orders.read(self.path('o.json'))
             except Fault as fault:
                 met['stopped'] += 1
-                self.assertTrue(line is None or re.search('is none of|stands twice', str(fault)), fault)
+                # Hours of three digits in a rule are read by the program, and not by each release of zoneinfo.
+                self.assertTrue(line is None or re.search('is none of|stands twice|/167.*: no POSIX rule', str(fault)), fault)
                 continue
             met['read'] += 1
             self.assertIsNotNone(line)
