@@ -17,6 +17,7 @@ check:
 install:
 	@test -x built/timetable || { echo "make install: no program is built yet: make" >&2; exit 1; }
 	install -D -m 755 built/timetable $(BIN)/timetable
+	test ! -x built/timetable-border || install -D -m 755 built/timetable-border $(BIN)/timetable-border
 	install -D -m 644 docs/timetable.1 $(MAN)/timetable.1
 	install -d $(SHARE)/tools/lib
 	install -m 755 $(addprefix tools/,$(TOOLS)) $(SHARE)/tools
