@@ -10,7 +10,7 @@ use Rattle.fixed_interval.proofs.Widths.{grid_sum_bounded, grid_difference_bound
 use Rattle.trig_series.specs.Laws.{sine_limit, sine_bound}
 use Rattle.trig_series.specs.Sine.{grid_sine, grid_cosine}
 use Rattle.trig_series.proofs.SineWidths.{grid_sine_narrow, grid_cosine_narrow}
-use Rattle.solar_terms.specs.Ranges.{added, scaled}
+use Rattle.trig_series.specs.Ranges.{added, scaled}
 use Rattle.solar_terms.specs.Sun.{SunTerms}
 use Rattle.solar_terms.specs.SunWidths.{IsNarrowSun}
 use Rattle.altitude_test.specs.Values.{Box, grid_latitude, grid_sidereal_time, grid_altitude_sine, grid_altitude_value, grid_meridian_value}
@@ -21,19 +21,19 @@ use Rattle.altitude_test.proofs.Verdicts.{among_part}
 
 -- a sine over a smallest box, a term of the sun, the sine of its obliquity
 abbrev pub of_sky : Bound
-of_sky = record { size = sine_limit; width = 2 ^ 28 }
+of_sky = record { reach = sine_limit; width = 2 ^ 28 }
 
 abbrev pub of_sun : Bound
-of_sun = record { size = sine_limit; width = 2 ^ 20 }
+of_sun = record { reach = sine_limit; width = 2 ^ 20 }
 
 abbrev pub of_obliquity : Bound
-of_obliquity = record { size = 42 * UNIT / 100; width = 2 ^ 20 }
+of_obliquity = record { reach = 42 * UNIT / 100; width = 2 ^ 20 }
 
 abbrev pub of_altitude_sine : Bound
-of_altitude_sine = record { size = 8 * UNIT; width = 11 * 2 ^ 28 }
+of_altitude_sine = record { reach = 8 * UNIT; width = 11 * 2 ^ 28 }
 
 abbrev of_value : Bound
-of_value = record { size = 10 * UNIT; width = 2 ^ 32 }
+of_value = record { reach = 10 * UNIT; width = 2 ^ 32 }
 
 -- ---- sines of the latitude and of the sidereal time
 

@@ -29,12 +29,12 @@ pub record ShowsNear (bits : ℕ) (e : Ends) (value : ℕ → Enclosure) : Type 
 abbrev pub AltitudeIsClose : Type 0
 AltitudeIsClose =
     (t : SunTerms) (r : Range) (c : Box) (angle : Range) → IsNarrowSun t → IsSmallest r c → IsNarrowRange 1 angle →
-    IsBounded (grid_altitude_value t r c angle) (record { size = 10 * UNIT; width = 2 ^ 32 })
+    IsBounded (grid_altitude_value t r c angle) (record { reach = 10 * UNIT; width = 2 ^ 32 })
 
 abbrev pub MeridianIsClose : Type 0
 MeridianIsClose =
     (t : SunTerms) (r : Range) (c : Box) → IsNarrowSun t → IsSmallest r c →
-    IsBounded (grid_meridian_value t r c) (record { size = 10 * UNIT; width = 2 ^ 32 })
+    IsBounded (grid_meridian_value t r c) (record { reach = 10 * UNIT; width = 2 ^ 32 })
 
 abbrev pub OpenAltitudeIsNear : Type 0
 OpenAltitudeIsNear =

@@ -11,7 +11,7 @@ use Rattle.std.specs.Prelude.{ℕ}
 use Rattle.fixed_interval.specs.Enclosure.{Enclosure, sum, difference, product, scale_units}
 use Rattle.fixed_interval.specs.Grid.{Ends, Range, grid_sum, grid_difference, grid_product}
 use Rattle.trig_series.specs.Sine.{sine, cosine, grid_sine, grid_cosine}
-use Rattle.solar_terms.specs.Ranges.{added, scaled}
+use Rattle.trig_series.specs.Ranges.{added, scaled}
 use Rattle.solar_terms.specs.Sun.{ExactSun, SunTerms}
 use Rattle.altitude_test.specs.declared.Place.{Place}
 

@@ -1,12 +1,11 @@
 // The angles of a place at a minute: its latitude and its sidereal time.
 ghost use Rattle.std.specs.Prelude.{◌≡◌, ◌^◌, ◌≤◌, pos, ◌-ℤ◌, ◌*ℤ◌, ◌≤ℤ◌, unsigned_abs};
 ghost use Rattle.trig_series.specs.Angle.{range_of};
-ghost use Rattle.solar_terms.specs.Ranges.{scaled};
+ghost use Rattle.trig_series.specs.Ranges.{scaled};
 ghost use Rattle.solar_terms.specs.Sun.{minutes_of, terms_of};
 ghost use Rattle.altitude_test.specs.Values.{box_of, grid_latitude, grid_sidereal_time};
 
 use crate::Place;
-use solar_terms::ranges::plus;
 use solar_terms::{Minutes, Sun};
 use trig_series::Angle;
 
@@ -26,7 +25,7 @@ fn turn_at(k: i64) -> i128
     i128::from(k) * 36_000_000_000
 }
 
-#[tactic(auto, unfolding(solar_terms::specs::Ranges::scaled, crate::specs::Values::grid_latitude))]
+#[tactic(auto, unfolding(trig_series::specs::Ranges::scaled, crate::specs::Values::grid_latitude))]
 /// The latitudes of the box, in angle units.
 pub fn latitude(p: Place) -> Angle
     ensures value { range_of result ≡ grid_latitude (box_of p) }
@@ -35,7 +34,7 @@ pub fn latitude(p: Place) -> Angle
     Angle::new(angle_units(p.y0), angle_units(p.y1))
 }
 
-#[tactic(auto, unfolding(solar_terms::specs::Ranges::scaled))]
+#[tactic(auto, unfolding(trig_series::specs::Ranges::scaled))]
 fn longitude(p: Place) -> Angle
     ensures value { range_of result ≡ scaled (box_of p).x 1125 }
     ensures low { unsigned_abs result.lo ≤ 2 ^ 46 }
@@ -45,7 +44,7 @@ fn longitude(p: Place) -> Angle
     Angle::new(angle_units(p.x0), angle_units(p.x1))
 }
 
-#[tactic(auto, unfolding(solar_terms::specs::Ranges::scaled))]
+#[tactic(auto, unfolding(trig_series::specs::Ranges::scaled))]
 fn turn(m: Minutes) -> Angle
     ensures value { range_of result ≡ scaled (minutes_of m) 36000000000 }
     ensures low { unsigned_abs result.lo ≤ 2 ^ 61 }
@@ -60,5 +59,5 @@ pub(crate) fn sidereal_time(s: &Sun, m: Minutes, p: Place) -> Angle
     ensures value { range_of result ≡ grid_sidereal_time (terms_of s.now) (minutes_of m) (box_of p) }
     ensures narrow { (result.hi -ℤ result.lo) ≤ℤ pos 51840000000000 }
 {
-    plus(plus(turn(m), longitude(p)), s.q)
+    turn(m).plus(longitude(p)).plus(s.q)
 }

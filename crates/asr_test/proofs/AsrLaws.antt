@@ -8,7 +8,7 @@ use Rattle.fixed_interval.proofs.EnclosureLaws.{LiesIn_refl, LiesIn_trans, sum_m
 use Rattle.fixed_interval.proofs.Inclusion.{sum_holds, difference_holds, product_holds, magnitude_holds, signed_square_holds, root_holds}
 use Rattle.trig_series.specs.Sine.{sine, cosine, grid_sine, grid_cosine}
 use Rattle.trig_series.proofs.SineLaws.{sine_ordered, cosine_ordered, sine_holds, cosine_holds}
-use Rattle.solar_terms.specs.Ranges.{whole, exactly}
+use Rattle.trig_series.specs.Ranges.{whole, exactly}
 use Rattle.solar_terms.specs.Sun.{ExactSun, SunTerms}
 use Rattle.solar_terms.specs.SunLaws.{SunSource, IsSunSource, exact_terms}
 use Rattle.solar_terms.proofs.Narrowing.{Narrows, lies_deeper}

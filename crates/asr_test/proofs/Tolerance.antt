@@ -22,32 +22,32 @@ use Rattle.asr_test.proofs.AsrLaws.{grid_asr_holds}
 
 -- sine and cosine of the declination, of the zenith distance at noon, and the shadow's length
 abbrev of_sine_declination : Bound
-of_sine_declination = record { size = 57 * UNIT / 100; width = 2 ^ 21 }
+of_sine_declination = record { reach = 57 * UNIT / 100; width = 2 ^ 21 }
 
 abbrev of_cosine_declination : Bound
-of_cosine_declination = record { size = 116 * UNIT / 100; width = 2 ^ 23 }
+of_cosine_declination = record { reach = 116 * UNIT / 100; width = 2 ^ 23 }
 
 abbrev of_noon : Bound
-of_noon = record { size = 231 * UNIT / 100; width = 18 * 2 ^ 28 / 10 }
+of_noon = record { reach = 231 * UNIT / 100; width = 18 * 2 ^ 28 / 10 }
 
 abbrev of_shadow : Bound
-of_shadow = record { size = 693 * UNIT / 100; width = 54 * 2 ^ 28 / 10 }
+of_shadow = record { reach = 693 * UNIT / 100; width = 54 * 2 ^ 28 / 10 }
 
 abbrev of_value : Bound
-of_value = record { size = 4096 * UNIT; width = 2 ^ 42 }
+of_value = record { reach = 4096 * UNIT; width = 2 ^ 42 }
 
 -- ---- the declination
 
-one_bounded : IsBounded grid_one (record { size = UNIT; width = 0 })
+one_bounded : IsBounded grid_one (record { reach = UNIT; width = 0 })
 unfolding grid_one
-one_bounded = record { ordered = omega (arith, ints); size = lit≤ tt; width = omega (arith, ints) }
+one_bounded = record { ordered = omega (arith, ints); reach = lit≤ tt; width = omega (arith, ints) }
 
 sine_declination_bounded : (se sl : Ends) → IsBounded se of_obliquity → IsBounded sl of_sun → IsBounded (grid_product se sl) of_sine_declination
 unfolding product_bound ratio_bound
 sine_declination_bounded se sl h k = more_bounded _ _ _ of_sine_declination (grid_product_bounded se sl _ _ h k) (lit≤ tt) (lit≤ tt)
 
 abbrev of_square : Bound
-of_square = record { size = 33 * UNIT / 100; width = 2 ^ 22 }
+of_square = record { reach = 33 * UNIT / 100; width = 2 ^ 22 }
 
 square_bounded : (w : Ends) → IsBounded w of_sine_declination → IsBounded (grid_product w w) of_square
 unfolding product_bound ratio_bound
@@ -61,7 +61,7 @@ natural_at_least (negsuc m) n h = absurd (omega (arith, ints))
 -- 1 less a number of at most 0.33 is at least 0.64
 far_from_zero : (a : Ends) → IsBounded a of_square → (8 * UNIT / 10) * (8 * UNIT / 10) ≤ natural (grid_difference grid_one a).lo * UNIT
 unfolding grid_one
-far_from_zero a h = rw (grid_difference-is grid_one a) (core a.hi (omega (arith, h.size)))
+far_from_zero a h = rw (grid_difference-is grid_one a) (core a.hi (omega (arith, h.reach)))
   where
     core : (z : ℤ) → unsigned_abs z ≤ 33 * UNIT / 100 → (8 * UNIT / 10) * (8 * UNIT / 10) ≤ natural (pos UNIT -ℤ z) * UNIT
     core z k = omega (arith, natural_at_least (pos UNIT -ℤ z) (67 * UNIT / 100) (omega (arith, ints)))
@@ -72,7 +72,7 @@ cosine_declination_bounded w h =
     let square = square_bounded w h in
     let argument = grid_difference_bounded grid_one (grid_product w w) _ _ one_bounded square in
     more_bounded _ _ _ of_cosine_declination
-    (grid_root_bounded (grid_difference grid_one (grid_product w w)) _ (record { size = 116 * UNIT / 100; width = 2 ^ 22 }) (8 * UNIT / 10) argument (far_from_zero (grid_product w w) square) (lit≤ tt) (lit≤ tt))
+    (grid_root_bounded (grid_difference grid_one (grid_product w w)) _ (record { reach = 116 * UNIT / 100; width = 2 ^ 22 }) (8 * UNIT / 10) argument (far_from_zero (grid_product w w) square) (lit≤ tt) (lit≤ tt))
     (lit≤ tt) (lit≤ tt)
 
 -- ---- noon and the shadow

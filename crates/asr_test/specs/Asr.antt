@@ -13,7 +13,7 @@ use Rattle.std.specs.Prelude.{ℕ, ◌==◌, pos, if◌then◌else◌}
 use Rattle.fixed_interval.specs.Enclosure.{Enclosure, sum, difference, product, magnitude, signed_square, root}
 use Rattle.fixed_interval.specs.Grid.{UNIT, Ends, Range, grid_sum, grid_difference, grid_product, grid_magnitude, grid_signed_square, grid_root}
 use Rattle.trig_series.specs.Sine.{sine, cosine, grid_sine, grid_cosine}
-use Rattle.solar_terms.specs.Ranges.{exactly}
+use Rattle.trig_series.specs.Ranges.{exactly}
 use Rattle.solar_terms.specs.Sun.{ExactSun, SunTerms}
 use Rattle.altitude_test.specs.Values.{ExactBox, Box, latitude, exact_altitude_sine, grid_latitude, grid_altitude_sine}
 

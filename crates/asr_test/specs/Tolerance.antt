@@ -16,7 +16,7 @@ use Rattle.asr_test.specs.AsrLaws.{asr_at}
 abbrev pub AsrIsClose : Type 0
 AsrIsClose =
     (t : SunTerms) (r : Range) (c : Box) (factor : ℕ) → IsNarrowSun t → IsSmallest r c →
-    IsBounded (grid_asr_value t r c factor) (record { size = 4_096 * UNIT; width = 2 ^ 42 })
+    IsBounded (grid_asr_value t r c factor) (record { reach = 4_096 * UNIT; width = 2 ^ 42 })
 
 abbrev pub OpenAsrIsNear : Type 0
 OpenAsrIsNear =

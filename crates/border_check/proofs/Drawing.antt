@@ -15,27 +15,6 @@ use Rattle.region.proofs.Counting.{ring_fault-append}
 use Rattle.region.proofs.Sound.{else_none, sound}
 use Rattle.border_check.specs.Borders.{border_fault, positions_in, IsDrawn}
 
-pub record Checked (all left : List Polygon) (number : ℕ) : Type 0 where
-  pub fault_is : ring_fault number (flat_map (λ rings. rings) left) ≡ ring_fault 0 (flat_map (λ rings. rings) all)
-  pub enough : 4 * number + length (positions_of left) ≤ 1_000_000
-
-pub checked_more : (all left : List Polygon) (rings : Polygon) (number next : ℕ) → Checked all (rings ∷ left) number
-    → ring_fault number rings ≡ None → next ≡ number + length rings
-    → 4 * next ≤ 4 * number + length (positions_in rings) → Checked all left next
-checked_more all left rings number next c none e h = record {
-  fault_is = ap (λ n. ring_fault n (flat_map (λ rings. rings) left)) e
-      ∙ sym (ap (λ o. option_or o (ring_fault (number + length rings) (flat_map (λ rings. rings) left))) none)
-      ∙ sym (ring_fault-append number rings (flat_map (λ rings. rings) left))
-      ∙ c.fault_is;
-  enough = omega (arith, c.enough, length-append (positions_in rings) (positions_of left));
-}
-
-pub checked_fault : (all left : List Polygon) (rings : Polygon) (number : ℕ) (fault : RegionFault) → Checked all (rings ∷ left) number
-    → ring_fault number rings ≡ Some fault → ring_fault 0 (flat_map (λ rings. rings) all) ≡ Some fault
-checked_fault all left rings number fault c h =
-    sym c.fault_is ∙ ring_fault-append number rings (flat_map (λ rings. rings) left)
-    ∙ ap (λ o. option_or o (ring_fault (number + length rings) (flat_map (λ rings. rings) left))) h
-
 then_none : {A : Type 0} (b : Bool) (x : A) (o : Option A) → cond b o (Some x) ≡ None → (b ≡ true) × (o ≡ None)
 then_none true x o h = (refl, h)
 then_none false x o h = cc

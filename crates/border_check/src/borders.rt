@@ -9,12 +9,12 @@ ghost use Rattle.border_check.specs.Settled.{unsettled};
 ghost use Rattle.border_check.specs.Squares.{box_in, root};
 
 use crate::districts::polygons_of;
-use crate::rings::border_fault;
+use crate::faults::border_fault;
 use crate::shares::Share;
 use crate::squares::{Square, extent_of, root};
 use crate::walk::first_open;
 use no_memory::NoMemory;
-use region::{District, RegionFault};
+use region::{District, RegionFault, RingList};
 use std::alloc::{AllocError, Global};
 use std::marker::Model;
 
@@ -22,7 +22,7 @@ use std::marker::Model;
 /// rings, each a list of positions (longitude, latitude) in microdegrees; a place is in it as in a district.
 #[derive(Drop)]
 pub struct Border {
-    polygons: Vec<Vec<Vec<(i64, i64)>>>,
+    polygons: Vec<RingList>,
 }
 
 impl Model for Border {
@@ -36,7 +36,7 @@ impl Model for Border {
 impl Border {
     /// The border of these polygons. The first fault, in this order: no polygon or ring, more than 1,000,000
     /// positions, the first ring that is short or open, too far.
-    pub fn new(polygons: Vec<Vec<Vec<(i64, i64)>>>) -> Result<Border, RegionFault>
+    pub fn new(polygons: Vec<RingList>) -> Result<Border, RegionFault>
         ensures ok { IfOk result (λ border. border ≡ polygons_in polygons.items) }
         ensures sound { OnOk result (border_fault (polygons_in polygons.items) ≡ None) }
         ensures fault { IfErr result (λ fault. border_fault (polygons_in polygons.items) ≡ Some fault) }
@@ -58,8 +58,8 @@ impl Border {
 
 fn open_square(
     alloc: Global,
-    border: &[Vec<Vec<(i64, i64)>>],
-    district: &[Vec<Vec<(i64, i64)>>],
+    border: &[RingList],
+    district: &[RingList],
 ) -> Result<Option<Square>, AllocError>
     requires border { IsDrawn (polygons_in border.now) }
     requires district { IsDrawn (polygons_in district.now) }

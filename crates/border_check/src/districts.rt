@@ -2,7 +2,7 @@
 ghost use Rattle.std.specs.Prelude.{◌≡◌, ◌<◌, [], length, slice_index_or, IfOk};
 ghost use Rattle.region.specs.Vectors.{rings_in, polygons_in};
 
-use region::District;
+use region::{District, RingList};
 use std::alloc::{AllocError, Global};
 
 fn ring_of(
@@ -22,11 +22,7 @@ fn ring_of(
     Ok(positions)
 }
 
-fn polygon_of(
-    alloc: Global,
-    district: &District,
-    polygon: usize,
-) -> Result<Vec<Vec<(i64, i64)>>, AllocError>
+fn polygon_of(alloc: Global, district: &District, polygon: usize) -> Result<RingList, AllocError>
     requires { polygon < length district.now }
     ensures { IfOk result (λ rings. rings_in rings.items ≡ slice_index_or district.now polygon []) }
 {
@@ -38,10 +34,7 @@ fn polygon_of(
 }
 
 /// The district's polygons, each a list of rings, each a list of positions in microdegrees.
-pub(crate) fn polygons_of(
-    alloc: Global,
-    district: &District,
-) -> Result<Vec<Vec<Vec<(i64, i64)>>>, AllocError>
+pub(crate) fn polygons_of(alloc: Global, district: &District) -> Result<Vec<RingList>, AllocError>
     ensures { IfOk result (λ polygons. polygons_in polygons.items ≡ district.now) }
 {
     let mut polygons = Vec::new(alloc);

@@ -10,6 +10,7 @@ ghost use Rattle.border_check.specs.Views.{box_of, segment_of};
 
 use crate::edges::Edge;
 use crate::extents::Extent;
+use region::{are_above, are_below};
 
 /// Exactly one of two tests holds.
 pub(crate) fn differ(a: bool, b: bool) -> bool
@@ -22,18 +23,6 @@ fn either(a: bool, b: bool) -> bool
     ensures { result ≡ (a || b) }
 {
     a || b
-}
-
-fn are_below(u: i64, v: i64, z: i64) -> bool
-    ensures { result ≡ (int_lt u z && int_lt v z) }
-{
-    u < z && v < z
-}
-
-fn are_above(u: i64, v: i64, z: i64) -> bool
-    ensures { result ≡ (int_lt z u && int_lt z v) }
-{
-    z < u && z < v
 }
 
 // The edge's latitudes are beyond the box's.

@@ -7,13 +7,12 @@ mod districts;
 mod edge_tests;
 mod edges;
 mod extents;
-mod laws;
+mod faults;
+pub mod laws;
 mod parts;
-mod rings;
 mod shares;
 mod squares;
 mod walk;
 
 pub use borders::{Border, first_unsettled};
-pub use laws::{settled_holds, unsettled_is_open};
 pub use squares::{Square, root};

@@ -10,6 +10,7 @@ ghost use Rattle.border_check.specs.Views.{box_of};
 
 use crate::extents::Extent;
 use crate::parts::Part;
+use region::RingList;
 use std::alloc::{AllocError, Global};
 use std::marker::Model;
 
@@ -48,7 +49,7 @@ impl Share {
     /// What of the polygons matters in a box. Their positions aren't far.
     pub(crate) fn of_polygons(
         alloc: Global,
-        polygons: &[Vec<Vec<(i64, i64)>>],
+        polygons: &[RingList],
         r: &Extent,
     ) -> Result<Share, AllocError>
         requires { IsFalse (list_any is_far (positions_of (polygons_in polygons.now))) }

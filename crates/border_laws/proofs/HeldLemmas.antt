@@ -20,7 +20,7 @@ use Rattle.border_check.proofs.Trees.{settled_holds}
 use Rattle.cell_judge.specs.Scenes.{Scene, IsPlaceOf, HoldsAt}
 use Rattle.cell_judge.specs.RightEntries.{IsSafeFrom}
 use Rattle.cell_judge.proofs.ExtentLemmas.{xs_near}
-use Rattle.cell_judge.proofs.InBounds.{bounds, in_bounds}
+use Rattle.region.proofs.InBounds.{bounds, in_bounds}
 use Rattle.border_laws.specs.Held.{IsHeld, HeldBordersHaveNoPlaceOutside, HeldBordersAreSafe, over}
 
 -- the latitudes of positions that aren't far

@@ -2,6 +2,4 @@
 // Contract: an entry that is right for the district is safe at every rational place of the border.
 #![tactic(auto)]
 
-mod laws;
-
-pub use laws::{held_borders_are_safe, held_borders_have_no_place_outside};
+pub mod laws;

@@ -15,7 +15,7 @@ use Rattle.cell_split.specs.declared.cell.Cell.{Cell}
 use Rattle.cell_split.specs.Cells.{IsCellOf, IsRoot}
 use Rattle.cell_split.specs.Laws.{box_of}
 use Rattle.cell_judge.specs.Tiles.{eastward, northward, parts, tile}
-use Rattle.cell_judge.proofs.InBounds.{bounds, in_bounds}
+use Rattle.region.proofs.InBounds.{bounds, in_bounds}
 use Rattle.cell_judge.proofs.TileLemmas.{part_beyond}
 
 -- none is named for a box that has no place within the district's bounds

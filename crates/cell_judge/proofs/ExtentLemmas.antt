@@ -16,7 +16,7 @@ use Rattle.cell_split.specs.declared.cell.Cell.{Cell}
 use Rattle.cell_split.specs.Cells.{root_at, side}
 use Rattle.cell_judge.specs.Limits.{IsOver}
 use Rattle.cell_judge.specs.SkyLaws.{DistrictsLieInRootsOverThem}
-use Rattle.cell_judge.proofs.InBounds.{in_bounds}
+use Rattle.region.proofs.InBounds.{in_bounds}
 
 fold_min : (low a : ℤ) (high : ℤ) (zs : List ℤ) → low ≤ℤ a → AllIn low high zs → (low ≤ℤ fold int_min a zs) × (fold int_min a zs ≤ℤ a)
 fold_min low a high [] h all = (h, omega (arith, ints))

@@ -2,7 +2,6 @@ pub mod AngleLemmas
 pub mod Entries
 pub mod EntryLaws
 pub mod ExtentLemmas
-pub mod InBounds
 pub mod JudgeLemmas
 pub mod KindLaws
 pub mod NamedLemmas

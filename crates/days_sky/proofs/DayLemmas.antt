@@ -12,6 +12,7 @@ use Rattle.region.specs.Rings.{Polygon}
 use Rattle.cell_split.specs.declared.cell.Cell.{Cell}
 use Rattle.cell_split.specs.declared.cell.Task.{Task}
 use Rattle.cell_split.specs.declared.verdict.Verdict.{Verdict}
+use Rattle.cell_split.specs.Renumbered.{AnswersAs}
 use Rattle.cell_split.specs.Split.{children_of}
 use Rattle.cell_split.specs.Tree.{child_tasks, task_of}
 use Rattle.cell_split.proofs.Renumbering.{renumbered_trees}
@@ -71,11 +72,19 @@ quarters_judged sun polygons root days t d e vs inside is =
     ∙ (ap (λ (row : Row). map (verdict_on (grid_sun_of sun) row polygons) (children_of t.cell)) (row_is days t.problem d e inside)
     ∙ sym (map-map (days_content sun polygons (map rows_of_day days) root).verdict (task_of t.problem) (children_of t.cell)))
 
-pub own_trees : DaysHaveTheirOwnTrees
-own_trees sun polygons root is days each i rows inside own k known =
+-- problem 7 i + k of several days answers as problem k of day i's own sky
+pub own_answers : (sun : SunChoice) (polygons : List Polygon) (root : Cell) (days : List (List Row)) → Every IsWhole days → (i : ℕ) (rows : List Row) →
+    i < length days → get_or days i rows ≡ rows → (k : ℕ) → k < 7 →
+    AnswersAs (days_content sun polygons days root) (7 * i + k) (sky_content sun polygons rows root) k
+own_answers sun polygons root days each i rows inside own k known =
     let day : row_at (all_rows days) (7 * i + k) ≡ row_at rows k =
-    row_of_day days i k rows _ (recursion_from_All IsWhole days each) inside known ∙ ap (λ (l : List Row). row_at l k) own in
-    renumbered_trees (days_content sun polygons days root) (sky_content sun polygons rows root) (skies_are_lawful sun polygons rows root is) (7 * i + k) k (record {
+    row_of_day days i k rows _ each inside known ∙ ap (λ (l : List Row). row_at l k) own in
+    record {
       same_root = refl;
       same_verdicts = λ cell in'. ap (λ (row : Row). verdict_on (grid_sun_of sun) row polygons cell) day;
-    })
+    }
+
+pub own_trees : DaysHaveTheirOwnTrees
+own_trees sun polygons root is days each i rows inside own k known =
+    renumbered_trees (days_content sun polygons days root) (sky_content sun polygons rows root) (skies_are_lawful sun polygons rows root is) (7 * i + k) k
+    (own_answers sun polygons root days (recursion_from_All IsWhole days each) i rows inside own k known)

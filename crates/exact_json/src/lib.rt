@@ -5,7 +5,7 @@
 mod decimal;
 mod fault;
 mod held;
-mod laws;
+pub mod laws;
 mod machine;
 mod numeral;
 mod place;
@@ -16,6 +16,5 @@ mod within;
 
 pub use decimal::{Decimal, Digits};
 pub use fault::JsonFault;
-pub use laws::{every_text_is_read, readings_agree};
 pub use reader::read;
 pub use value::{Json, JsonList, JsonTable, JsonText};

@@ -5,12 +5,12 @@ use Rattle.std.specs.Int.{div_ceil}
 use Rattle.fixed_interval.specs.Grid.{Ends, Range, UNIT}
 
 pub record Bound : Type 0 where
-  pub size : ℕ
+  pub reach : ℕ
   pub width : ℕ
 
 pub record AreBounded (lo hi : ℤ) (b : Bound) : Type 0 where
   pub ordered : lo ≤ℤ hi
-  pub size : max (unsigned_abs lo) (unsigned_abs hi) ≤ b.size
+  pub reach : max (unsigned_abs lo) (unsigned_abs hi) ≤ b.reach
   pub width : hi ≤ℤ (lo +ℤ pos b.width)
 
 abbrev pub IsBounded : Ends → Bound → Type 0
@@ -21,24 +21,24 @@ IsBoundedRange r b = AreBounded r.lo r.hi b
 
 -- of a sum and of a difference
 unfoldable pub sum_bound : Bound → Bound → Bound
-sum_bound a b = record { size = a.size + b.size; width = a.width + b.width }
+sum_bound a b = record { reach = a.reach + b.reach; width = a.width + b.width }
 
 -- of a product over n, rounded outward: one step of rounding at each end
 unfoldable pub ratio_bound : Bound → Bound → ℕ → Bound
-ratio_bound a b n = record { size = div_ceil (a.size * b.size) n; width = div_ceil (a.size * b.width + b.size * a.width) n + 1 }
+ratio_bound a b n = record { reach = div_ceil (a.reach * b.reach) n; width = div_ceil (a.reach * b.width + b.reach * a.width) n + 1 }
 
 unfoldable pub product_bound : Bound → Bound → Bound
 product_bound a b = ratio_bound a b UNIT
 
 unfoldable pub divide_bound : Bound → ℕ → Bound
-divide_bound a n = record { size = div_ceil a.size n; width = div_ceil a.width n + 1 }
+divide_bound a n = record { reach = div_ceil a.reach n; width = div_ceil a.width n + 1 }
 
 unfoldable pub scale_bound : Bound → ℕ → Bound
-scale_bound a n = record { size = div_ceil (a.size * n) UNIT; width = div_ceil (a.width * n) UNIT + 1 }
+scale_bound a n = record { reach = div_ceil (a.reach * n) UNIT; width = div_ceil (a.width * n) UNIT + 1 }
 
 -- of a hull of two that are at most `gap` apart
 unfoldable pub hull_bound : Bound → Bound → ℕ → Bound
-hull_bound a b gap = record { size = max a.size b.size; width = a.width + b.width + gap }
+hull_bound a b gap = record { reach = max a.reach b.reach; width = a.width + b.width + gap }
 
 unfoldable pub square_bound : Bound → Bound
-square_bound a = record { size = div_ceil (a.size * a.size) UNIT; width = div_ceil (2 * (a.size * a.width)) UNIT + 1 }
+square_bound a = record { reach = div_ceil (a.reach * a.reach) UNIT; width = div_ceil (2 * (a.reach * a.width)) UNIT + 1 }

@@ -24,8 +24,8 @@ AreOrdered a = IsOrdered (enclosure_of a)
 abbrev pub IsOrderedRange : Range → Type 0
 IsOrderedRange r = IsOrdered (enclosure_of_range r)
 
--- `lies in` is an order, and what lies in an enclosure with a sign has that sign and not the other
-pub record LiesInIsAnOrder : Type 0 where
+-- `lies in` is a preorder, and what lies in an enclosure with a sign has that sign and not the other
+pub record LiesInIsAPreorder : Type 0 where
   pub reflexive : (a : Enclosure) → LiesIn a a
   pub transitive : (a b c : Enclosure) → LiesIn a b → LiesIn b c → LiesIn a c
   pub above : (a b : Enclosure) → LiesIn a b → IsAboveZero b → IsAboveZero a
@@ -117,7 +117,7 @@ pub record BoundsEachResult : Type 0 where
   pub of_magnitude : (a : Ends) (s : Bound) → IsBounded a s → IsBounded (grid_magnitude a) s
   pub of_signed_square : (a : Ends) (s : Bound) → IsBounded a s → IsBounded (grid_signed_square a) (square_bound s)
   -- a root is the narrower the farther from 0 its numbers are: c is at most the root of the lower end, and 0 will do
-  pub of_root : (a : Ends) (s t : Bound) (c : ℕ) → IsBounded a s → c * c ≤ natural a.lo * UNIT → s.width * UNIT ≤ t.width * (2 * c + t.width) → s.size * UNIT ≤ t.size * t.size → IsBounded (grid_root a) (record { size = t.size; width = t.width + 1 })
+  pub of_root : (a : Ends) (s t : Bound) (c : ℕ) → IsBounded a s → c * c ≤ natural a.lo * UNIT → s.width * UNIT ≤ t.width * (2 * c + t.width) → s.reach * UNIT ≤ t.reach * t.reach → IsBounded (grid_root a) (record { reach = t.reach; width = t.width + 1 })
 
 -- the condition of a product over n: it is within m exactly where the greatest product is within m n
 abbrev pub RatioIsInRange : Type 0

@@ -1,11 +1,11 @@
 // The laws of the operations. Each is the contract of a function that does nothing.
-ghost use Rattle.fixed_interval.specs.Laws.{LiesInIsAnOrder, EndsShowTheSign, RoundsToTheLeast};
+ghost use Rattle.fixed_interval.specs.Laws.{LiesInIsAPreorder, EndsShowTheSign, RoundsToTheLeast};
 ghost use Rattle.fixed_interval.specs.Laws.{KeepsLiesIn, GridKeepsLiesIn, GridHoldsExact, KeepsOrder};
 ghost use Rattle.fixed_interval.specs.Laws.{RootNests, BoundsEachResult, RatioIsInRange};
 
-/// To lie in is an order, and what lies in an enclosure with a sign has that sign and not the other.
-pub fn lies_in_is_an_order()
-    ensures { LiesInIsAnOrder }
+/// To lie in is a preorder, and what lies in an enclosure with a sign has that sign and not the other.
+pub fn lies_in_is_a_preorder()
+    ensures { LiesInIsAPreorder }
 {}
 
 /// Ends on the grid have a sign exactly where the one nearer to zero does.

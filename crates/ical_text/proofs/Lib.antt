@@ -1,5 +1,4 @@
 pub mod CalendarLemmas
-pub mod DayLemmas
 pub mod EventLemmas
 pub mod FoldLemmas
 pub mod LawLemmas

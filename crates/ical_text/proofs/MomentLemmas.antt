@@ -1,26 +1,17 @@
 -- The text of a moment is read as that moment.
 use Rattle.std.proofs.Common.{◌≡◌, ℕ, ◌+◌, ◌-◌, ◌*◌, ◌/◌, ◌%◌, ◌<◌, ◌≤◌, ◌&&◌, true, cond, ℤ, pos, neg_ℤ, ◌+ℤ◌, ◌-ℤ◌, ◌≤ℤ◌, unsigned_abs, List, [], ◌∷◌, Some, None, refl, ap, sym, subst, ◌∙◌, arith, nat_le}
 use Rattle.std.proofs.lemmas.Bool.Decides.{nat_tests}
-use Rattle.std.proofs.lemmas.Fmt.{decimal_digit}
-use Rattle.std.specs.Char.{is_ascii_digit}
 use Rattle.std.specs.List.{list_all}
 use Rattle.std.specs.Int.{int_div_euclid, int_rem_euclid}
 use Rattle.std.specs.Prelude.{option_and_then}
 use borrow.Author.Differences.{up, down}
 use Rattle.jiff_core.proofs.SignedLemmas.{int_div_euclid-parts, int_rem_euclid-parts, signed_arith}
-use Rattle.jiff_core.proofs.CalendarLemmas.{days_in_month_bounds}
 use Rattle.jiff_core.specs.Calendar.{days_from_civil, days_in_month}
 use Rattle.jiff_tz.specs.Year.{year_of_day}
 use Rattle.year_table.specs.Dates.{day_of_month, month_of, two_digits}
 use Rattle.ical_text.specs.Moments.{day_at, minute_at, minute_number, moment_by, moment_of, moment_text, number_of, parts_text, written_in}
 use Rattle.ical_text.specs.Properties.{is_inner}
-use Rattle.ical_text.proofs.DayLemmas.{day_number_is, nonnegative, day_short, month_short, year_from, year_is, year_to}
-
-pub two_bytes : (n : ℕ) → n < 100 → two_digits n ≡ (48 + n / 10) ∷ (48 + n % 10) ∷ []
-two_bytes n h =
-    let tens = decimal_digit (n / 10) (omega arith) in
-    let ones = decimal_digit (n % 10) (omega arith) in
-    rw (tens, ones) refl
+use Rattle.year_table.proofs.CivilLemmas.{IsDated, dated, nonnegative, two_bytes, two_read}
 
 -- the sixteen bytes of a moment
 abbrev moment_bytes : ℕ → ℕ → ℕ → ℕ → ℕ → List ℕ
@@ -31,13 +22,6 @@ moment_bytes year month day hour minute =
 bytes_are : (year month day minute : ℕ) → year < 10000 → month < 100 → day < 100 → minute < 1440 → moment_by (parts_text year month day) minute ≡ moment_bytes year month day (minute / 60) (minute % 60)
 bytes_are year month day minute y m d t =
     rw (two_bytes (year / 100) (omega arith), two_bytes (year % 100) (omega arith), two_bytes month m, two_bytes day d, two_bytes (minute / 60) (omega arith), two_bytes (minute % 60) (omega arith)) refl
-
-two_read : (n : ℕ) → n < 100 → cond (is_ascii_digit (48 + n / 10) && is_ascii_digit (48 + n % 10)) (Some ((48 + n / 10 - 48) * 10 + (48 + n % 10 - 48))) None ≡ Some n
-two_read n h =
-    let tens : is_ascii_digit (48 + n / 10) ≡ true = grind (arith, nat_tests) in
-    let ones : is_ascii_digit (48 + n % 10) ≡ true = grind (arith, nat_tests) in
-    let worth : (48 + n / 10 - 48) * 10 + (48 + n % 10 - 48) ≡ n = omega arith in
-    rw (tens, ones, worth) refl
 
 bytes_read : (year month day hour minute : ℕ) → year < 10000 → month < 100 → day < 100 → hour < 100 → minute < 100 → written_in (moment_bytes year month day hour minute) ≡ Some (record { year = year; month = month; day = day; hour = hour; minute = minute })
 unfolding written_in
@@ -105,32 +89,6 @@ bytes_plain year month day hour minute y m d h t =
       plain_digit (minute / 10) (omega arith),
       plain_digit (minute % 10) (omega arith),
     ) refl
-
--- a day of these years has a date
-pub record IsDated (day : ℤ) : Type 0 where
-  pub from : 1899 ≤ unsigned_abs (year_of_day day)
-  pub to : unsigned_abs (year_of_day day) ≤ 2101
-  pub first : 1 ≤ month_of day
-  pub month : month_of day ≤ 12
-  pub short : day_of_month day ≤ 31
-  pub date : day_of_month day ≤ days_in_month (pos (unsigned_abs (year_of_day day))) (month_of day)
-  pub is : days_from_civil (pos (unsigned_abs (year_of_day day))) (month_of day) (day_of_month day) ≡ day
-
-pub dated : (day : ℤ) → neg_ℤ (pos 25932) ≤ℤ day → day ≤ℤ pos 48211 → IsDated day
-dated day low high =
-    let sign = year_is day low high in
-    let before = month_short day low high in
-    let date = day_short day low high in
-    let most = days_in_month_bounds (year_of_day day) (month_of day) in
-    record {
-      from = year_from day low high;
-      to = year_to day low high;
-      first = omega arith;
-      month = omega arith;
-      short = omega (arith, most.0);
-      date = subst (λ z. day_of_month day ≤ days_in_month z (month_of day)) (sym sign) date;
-      is = ap (λ z. days_from_civil z (month_of day) (day_of_month day)) sign ∙ day_number_is day low high;
-    }
 
 -- Of a moment of the years from 1899 to 2101.
 

@@ -19,6 +19,7 @@ use Rattle.method_table.specs.Method.{asr_word, method_word}
 use Rattle.method_table.specs.Row.{Row, column_word, minute_of}
 use Rattle.method_table.specs.Table.{base_of}
 use Rattle.jiff_tz.specs.Year.{year_of_day}
+use Rattle.year_table.proofs.CivilLemmas.{IsDated, dated}
 use Rattle.year_table.specs.Dates as dates
 use Rattle.year_table.specs.Dates.{day_of_month, month_of, two_digits}
 use Rattle.year_table.specs.Entries.{IsInFrame}
@@ -31,7 +32,7 @@ use Rattle.ical_text.specs.Tables.{Found, IsDay, IsPrintable, IsRowOf, IsSheet, 
 use Rattle.ical_text.proofs.CalendarLemmas.{EachCanBeRead, read_again_each}
 use Rattle.ical_text.proofs.FoldLemmas.{first_part, second_part}
 use Rattle.ical_text.proofs.MinuteLemmas.{minute_high, minute_low}
-use Rattle.ical_text.proofs.MomentLemmas.{IsDated, dated, plain_digit}
+use Rattle.ical_text.proofs.MomentLemmas.{plain_digit}
 
 -- a text without CR and LF
 record Plain (text : List ℕ) : Type 0 where

@@ -15,10 +15,11 @@ use Rattle.ical_text.specs.declared.own.Times.{Times}
 use Rattle.ical_text.specs.declared.own.Times.TheVariants.{Never, Once, Again}
 use Rattle.ical_text.specs.declared.written.Written.{Written}
 use Rattle.ical_text.specs.Lines.{joined_lines}
-use Rattle.ical_text.specs.Moments.{IsInYears, civil_day, is_date, is_known, minute_number, moment_of, number_of, written_in}
+use Rattle.ical_text.specs.Moments.{IsInYears, is_known, minute_number, moment_of, number_of, written_in}
 use Rattle.ical_text.specs.Properties.{Property, property_of}
 use Rattle.ical_text.specs.Reading.{Place, after, end_fault, ends_event, event_by, events_in, events_of, fault_of, moment_in, reading, reading_from, start, unless, with_events}
-use Rattle.ical_text.proofs.DayLemmas.{days_of_years_suc, first_days, more_years}
+use Rattle.year_table.proofs.CivilLemmas.{days_of_years_suc, first_days, more_years}
+use Rattle.year_table.specs.Dates.{civil_day, is_date}
 
 abbrev InYears : Event → Type 0
 InYears e = IsInYears e.start
@@ -60,9 +61,9 @@ minute_in_years day hour minute low high h m =
 both_parts : (a b : Bool) → (a && b) ≡ true → (a ≡ true) × (b ≡ true)
 both_parts a b e = and_parts a b e
 
-number_known : (w : Written) → is_known w ≡ true → IfSome (option_map (λ day. minute_number day w.hour w.minute) (civil_day w)) IsInYears
-number_known w known = by (is_date w) refl where
-  by : (t : Bool) → is_date w ≡ t → IfSome (option_map (λ day. minute_number day w.hour w.minute) (cond t (Some (days_from_civil (pos w.year) w.month w.day)) None)) IsInYears
+number_known : (w : Written) → is_known w ≡ true → IfSome (option_map (λ day. minute_number day w.hour w.minute) (civil_day w.year w.month w.day)) IsInYears
+number_known w known = by (is_date w.year w.month w.day) refl where
+  by : (t : Bool) → is_date w.year w.month w.day ≡ t → IfSome (option_map (λ day. minute_number day w.hour w.minute) (cond t (Some (days_from_civil (pos w.year) w.month w.day)) None)) IsInYears
   by false e = tt
   by true e =
       let years = both_parts (nat_le 1899 w.year && nat_le w.year 2101) (nat_le w.hour 23 && nat_le w.minute 59) known in
@@ -84,7 +85,7 @@ number_known w known = by (is_date w) refl where
 number_in_years : (w : Written) → IfSome (number_of w) IsInYears
 unfolding number_of
 number_in_years w = by (is_known w) refl where
-  by : (t : Bool) → is_known w ≡ t → IfSome (cond t (option_map (λ day. minute_number day w.hour w.minute) (civil_day w)) None) IsInYears
+  by : (t : Bool) → is_known w ≡ t → IfSome (cond t (option_map (λ day. minute_number day w.hour w.minute) (civil_day w.year w.month w.day)) None) IsInYears
   by false e = tt
   by true e = number_known w e
 

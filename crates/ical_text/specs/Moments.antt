@@ -1,11 +1,9 @@
 -- Minutes since 2000-01-01 12:00 Universal Time, as calendars write them: YYYYMMDDTHHMM00Z.
 use Rattle.std.specs.Prelude.{ℕ, ◌+◌, ◌-◌, ◌*◌, ◌/◌, ◌%◌, ◌==◌, nat_le, ◌++◌, ℤ, pos, ◌+ℤ◌, ◌-ℤ◌, ◌*ℤ◌, ◌≤ℤ◌, neg_ℤ, unsigned_abs, Bool, ◌&&◌, if◌then◌else◌, List, codes, length, slice_index, Option, Some, None, option_map, option_and_then}
-use Rattle.std.specs.Char.{is_ascii_digit}
 use Rattle.std.specs.Int.{int_div_euclid, int_rem_euclid}
-use Rattle.jiff_core.specs.Calendar.{days_from_civil, days_in_month}
 use Rattle.jiff_tz.specs.Year.{year_of_day}
 use Rattle.year_table.specs.Dates as dates
-use Rattle.year_table.specs.Dates.{day_of_month, month_of, two_digits}
+use Rattle.year_table.specs.Dates.{civil_day, day_of_month, month_of, two_digits, two_digits_at}
 use Rattle.ical_text.specs.declared.written.Written.{Written}
 
 -- the day since 1970-01-01 (day 10,957 is 2000-01-01), and the minute of that day
@@ -44,12 +42,6 @@ shown_by date minute = date ++ codes "T" ++ two_digits (minute / 60) ++ codes ":
 abbrev pub shown_moment : ℤ → List ℕ
 shown_moment k = shown_by (dates.date_text (day_at k)) (minute_at k)
 
--- the number that the two digits at a place write
-abbrev pub two_digits_at : List ℕ → ℕ → Option ℕ
-two_digits_at s i =
-    if is_ascii_digit (slice_index s i) && is_ascii_digit (slice_index s (i + 1))
-    then Some ((slice_index s i - 48) * 10 + (slice_index s (i + 1) - 48)) else None
-
 abbrev pub written_by : Option ℕ → Option ℕ → Option ℕ → Option ℕ → Option ℕ → Option ℕ → Option Written
 written_by (Some century) (Some year) (Some month) (Some day) (Some hour) (Some minute) =
     Some (record { year = century * 100 + year; month = month; day = day; hour = hour; minute = minute })
@@ -67,15 +59,6 @@ written_in s =
     then written_by (two_digits_at s 0) (two_digits_at s 2) (two_digits_at s 4) (two_digits_at s 6) (two_digits_at s 9) (two_digits_at s 11)
     else None
 
--- the calendar has the date, and its year has four digits
-abbrev pub is_date : Written → Bool
-is_date w =
-    nat_le w.year 9999
-    && ((nat_le 1 w.month && nat_le w.month 12) && (nat_le 1 w.day && nat_le w.day (days_in_month (pos w.year) w.month)))
-
-abbrev pub civil_day : Written → Option ℤ
-civil_day w = if is_date w then Some (days_from_civil (pos w.year) w.month w.day) else None
-
 -- a time of the day, in the years from 1899 to 2101
 abbrev pub is_known : Written → Bool
 is_known w = (nat_le 1899 w.year && nat_le w.year 2101) && (nat_le w.hour 23 && nat_le w.minute 59)
@@ -84,7 +67,7 @@ abbrev pub minute_number : ℤ → ℕ → ℕ → ℤ
 minute_number day hour minute = (day -ℤ pos 10957) *ℤ pos 1440 -ℤ pos 720 +ℤ pos (hour * 60 + minute)
 
 unfoldable pub number_of : Written → Option ℤ
-number_of w = if is_known w then option_map (λ day. minute_number day w.hour w.minute) (civil_day w) else None
+number_of w = if is_known w then option_map (λ day. minute_number day w.hour w.minute) (civil_day w.year w.month w.day) else None
 
 -- the minute of a text
 abbrev pub moment_of : List ℕ → Option ℤ

@@ -5,7 +5,7 @@
 mod event;
 mod fault;
 mod folded;
-mod laws;
+pub mod laws;
 mod line;
 mod moment;
 mod own;
@@ -17,9 +17,6 @@ mod written;
 
 pub use event::{Event, Events};
 pub use fault::IcalFault;
-pub use laws::{
-    calendars_are_read_again, lines_decide, reading_is_exact, readings_agree, tables_are_read_again,
-};
 pub use line::Line;
 pub use moment::shown_moment;
 pub use reader::read_ical;

@@ -1,75 +1,21 @@
 // Dates and moments of Universal Time as calendars write them.
-ghost use Rattle.std.specs.Prelude.{◌≡◌, ◌≤ℤ◌, neg_ℤ, pos, unsigned_abs, Some, IfOk};
+ghost use Rattle.std.specs.Prelude.{◌≡◌, ◌≤ℤ◌, neg_ℤ, pos, IfOk};
 ghost use Rattle.std.specs.String.{string_bytes};
-ghost use Rattle.jiff.specs.Words.{epoch_day};
-ghost use Rattle.jiff_tz.specs.Year.{year_of_day};
-ghost use Rattle.year_table.specs.Dates as dates;
-ghost use Rattle.year_table.specs.Dates.{day_of_month, month_of, two_digits};
 ghost use Rattle.ical_text.specs.Moments.{IsInYears, day_at, date_text, minute_at, moment_by, moment_text, parts_text, shown_by, shown_moment, stamp_text};
 
-use jiff::ToSpan;
-use jiff::civil::{Date, date};
 use no_memory::NoMemory;
 use std::alloc::Global;
-use std::fmt::{Display, Formatter, Result as Shown, Write};
+use year_table::pieces::{DateParts, TwoDigits, date_string as dashed_string, parts_of};
 
-// the date of a day since 1970-01-01, of a year from 1899 to 2101
-fn date_of(day: i32) -> Date
-    requires not_early { neg_ℤ (pos 26000) ≤ℤ day }
-    requires not_late { day ≤ℤ pos 48300 }
-    ensures { epoch_day result ≡ day }
+// the date as YYYYMMDD
+fn undashed(alloc: Global, parts: DateParts) -> Result<String, NoMemory>
+    ensures { IfOk result (λ t. string_bytes t ≡ parts_text parts.year parts.month parts.day) }
 {
-    match date(1970, 1, 1).checked_add((day as i64).days()) {
-        Ok(date) => date,
-        Err(_) => unreachable!(),
-    }
-}
-
-// a number below 100 in two digits
-#[derive(Clone, Copy)]
-struct TwoDigits(u32);
-
-impl Display for TwoDigits {
-    ghost output = { λ n. Some (two_digits n.0) };
-
-    fn fmt<W: Write>(&self, f: &mut Formatter<W>) -> Shown {
-        write!(f, "{}{}", self.0 / 10, self.0 % 10)
-    }
-}
-
-// a date as YYYYMMDD
-#[derive(Clone, Copy)]
-struct DateParts {
-    year: u32,
-    month: u32,
-    day: u32,
-}
-
-impl Display for DateParts {
-    ghost output = { λ d. Some (parts_text d.year d.month d.day) };
-
-    fn fmt<W: Write>(&self, f: &mut Formatter<W>) -> Shown {
-        let century = TwoDigits(self.year / 100);
-        let year = TwoDigits(self.year % 100);
-        let month = TwoDigits(self.month);
-        let day = TwoDigits(self.day);
-        write!(f, "{century}{year}{month}{day}")
-    }
-}
-
-fn parts_of(day: i32) -> DateParts
-    requires not_early { neg_ℤ (pos 26000) ≤ℤ day }
-    requires not_late { day ≤ℤ pos 48300 }
-    ensures year { result.year ≡ unsigned_abs (year_of_day day) }
-    ensures month { result.month ≡ month_of day }
-    ensures day { result.day ≡ day_of_month day }
-{
-    let date = date_of(day);
-    DateParts {
-        year: date.year().unsigned_abs() as u32,
-        month: date.month().unsigned_abs() as u32,
-        day: date.day().unsigned_abs() as u32,
-    }
+    let century = TwoDigits(parts.year / 100);
+    let year = TwoDigits(parts.year % 100);
+    let month = TwoDigits(parts.month);
+    let day = TwoDigits(parts.day);
+    Ok(format!(in alloc; "{century}{year}{month}{day}")?)
 }
 
 fn date_string(alloc: Global, day: i32) -> Result<String, NoMemory>
@@ -77,7 +23,7 @@ fn date_string(alloc: Global, day: i32) -> Result<String, NoMemory>
     requires not_late { day ≤ℤ pos 48300 }
     ensures { IfOk result (λ t. string_bytes t ≡ date_text day) }
 {
-    Ok(format!(in alloc; "{}", parts_of(day))?)
+    undashed(alloc, parts_of(day))
 }
 
 /// The first minute of a day since 1970-01-01.
@@ -125,25 +71,6 @@ fn moment_by(alloc: Global, date: &str, minute: u32) -> Result<String, NoMemory>
     let hours = TwoDigits(minute / 60);
     let minutes = TwoDigits(minute % 60);
     Ok(format!(in alloc; "{date}T{hours}{minutes}00Z")?)
-}
-
-// the date as YYYY-MM-DD
-fn dashed(alloc: Global, parts: DateParts) -> Result<String, NoMemory>
-    ensures { IfOk result (λ t. string_bytes t ≡ dates.parts_text parts.year parts.month parts.day) }
-{
-    let century = TwoDigits(parts.year / 100);
-    let year = TwoDigits(parts.year % 100);
-    let month = TwoDigits(parts.month);
-    let day = TwoDigits(parts.day);
-    Ok(format!(in alloc; "{century}{year}-{month}-{day}")?)
-}
-
-fn dashed_string(alloc: Global, day: i32) -> Result<String, NoMemory>
-    requires not_early { neg_ℤ (pos 26000) ≤ℤ day }
-    requires not_late { day ≤ℤ pos 48300 }
-    ensures { IfOk result (λ t. string_bytes t ≡ dates.date_text day) }
-{
-    dashed(alloc, parts_of(day))
 }
 
 fn shown_by(alloc: Global, date: &str, minute: u32) -> Result<String, NoMemory>

@@ -1,8 +1,8 @@
 // Moments as they are read.
 ghost use Rattle.std.specs.Prelude.{◌≡◌, ◌<◌, ◌+◌, ◌*◌, ◌^◌, ◌-ℤ◌, ◌*ℤ◌, ◌≤ℤ◌, neg_ℤ, pos, length, IfSome};
-ghost use Rattle.ical_text.specs.Moments.{civil_day, is_known, is_shaped, minute_number, moment_of, number_of, two_digits_at, written_in};
+ghost use Rattle.ical_text.specs.Moments.{is_known, is_shaped, minute_number, moment_of, number_of, written_in};
 
-use jiff::civil::Date;
+use year_table::pieces::{civil_day, two_digits_at};
 
 /// A moment as it is written, which need not be one of the calendar.
 #[derive(Clone, Copy)]
@@ -12,19 +12,6 @@ pub(crate) struct Written {
     pub day: u8,
     pub hour: u8,
     pub minute: u8,
-}
-
-// the number that the two digits at a place write
-fn two_digits_at(text: &[u8], i: usize) -> Option<u8>
-    requires { i + 1 < length text.now }
-    ensures { result ≡ two_digits_at text.now i }
-{
-    let (tens, ones) = (text[i], text[i + 1]);
-    if tens.is_ascii_digit() && ones.is_ascii_digit() {
-        Some((tens - b'0') * 10 + (ones - b'0'))
-    } else {
-        None
-    }
 }
 
 fn is_shaped(text: &[u8]) -> bool
@@ -55,21 +42,6 @@ fn written_in(text: &[u8]) -> Option<Written>
         hour,
         minute,
     })
-}
-
-// the day since 1970-01-01 of a date that the calendar has
-fn civil_day(w: Written) -> Option<i32>
-    ensures value { result ≡ civil_day w }
-    ensures low { IfSome result (λ day. neg_ℤ (pos 5000000) ≤ℤ day) }
-    ensures high { IfSome result (λ day. day ≤ℤ pos 5000000) }
-{
-    if w.year > 9999 || w.month > 12 || w.day > 31 {
-        return None;
-    }
-    match Date::new(w.year as i16, w.month as i8, w.day as i8) {
-        Ok(date) => Some(date.to_plain().to_unix_epoch_day()),
-        Err(_) => None,
-    }
 }
 
 fn is_known(w: Written) -> bool
@@ -112,7 +84,7 @@ fn number_of(w: Written) -> Option<i64>
     if !is_known(w) {
         return None;
     }
-    let day = civil_day(w)?;
+    let day = civil_day(w.year, w.month, w.day)?;
     Some(minute_number(day, w.hour, w.minute))
 }
 

@@ -17,7 +17,7 @@ use Rattle.trig_series.specs.Series.{margin, next_grid_term, grid_term, grid_par
 use Rattle.trig_series.specs.Sine.{grid_quarters_on, grid_sine_beyond, grid_sine, grid_cosine}
 use Rattle.trig_series.proofs.SineLaws.{grid_sine_mono}
 use Rattle.trig_series.proofs.SineWidths.{grid_sine_narrow, grid_cosine_narrow}
-use Rattle.solar_terms.specs.Ranges.{whole, added, subtracted}
+use Rattle.trig_series.specs.Ranges.{whole, added, subtracted}
 use Rattle.meeus_terms.specs.Meeus.{mean_longitude, mean_anomaly, node, first_coefficient, second_coefficient, mean_obliquity, grid_mean_longitude, grid_mean_anomaly, grid_node, grid_first_coefficient, grid_second_coefficient, grid_centre, grid_longitude, grid_mean_obliquity, grid_obliquity, grid_meeus}
 use Rattle.meeus_terms.specs.MeeusLaws.{MeeusIsNarrow}
 use Rattle.meeus_terms.specs.Scaled.{hull_of, grid_scale_between}
@@ -63,7 +63,7 @@ sine_narrow r h = grid_sine_narrow r 4 (lit≤ tt) h.ordered h.narrow
 cosine_narrow : (r : Range) → IsNarrow 4 r → IsBounded (grid_cosine r) (sine_bound 4)
 cosine_narrow r h = grid_cosine_narrow r 4 (lit≤ tt) h.ordered h.narrow
 
-scaled_bounded : (a : Ends) (n : ℕ) → IsBounded a (sine_bound 4) → n ≤ 2 ^ 39 → IsBoundedRange (grid_scale_units a n) (record { size = 2 ^ 41; width = 2 })
+scaled_bounded : (a : Ends) (n : ℕ) → IsBounded a (sine_bound 4) → n ≤ 2 ^ 39 → IsBoundedRange (grid_scale_units a n) (record { reach = 2 ^ 41; width = 2 })
 unfolding scale_bound
 scaled_bounded a n h k = more_bounded _ _ _ _ (grid_scale_units_bounded a (sine_bound 4) n h) (omega arith) (omega arith)
 
@@ -87,7 +87,7 @@ one_more z n = omega (arith, ints)
 next_near : (a : Ends) (n : ℕ) → IsBounded a (sine_bound 4) → AreNear (grid_scale_units a n) (grid_scale_units a (n + 1))
 next_near a n h =
     rw (grid_scale_units-is a n, grid_scale_units-is a (n + 1), one_more a.lo n, one_more a.hi n)
-    (record { low = floor_near (a.lo *ℤ pos n) a.lo (omega (arith, h.size)); high = ceil_near (a.hi *ℤ pos n) a.hi (omega (arith, h.size)) })
+    (record { low = floor_near (a.lo *ℤ pos n) a.lo (omega (arith, h.reach)); high = ceil_near (a.hi *ℤ pos n) a.hi (omega (arith, h.reach)) })
 
 same_near : (r : Range) → AreNear r r
 same_near r = record { low = omega (arith, ints); high = omega (arith, ints) }
@@ -142,7 +142,7 @@ longitude_narrow r e =
 
 -- ---- the obliquity, and its sine of at most 0.42
 
-nutation_of_obliquity : (r : Range) → r.hi ≡ r.lo → IsBoundedRange (grid_scale_units (grid_cosine (grid_node r)) 368640000) (record { size = 491_520_000; width = 2 })
+nutation_of_obliquity : (r : Range) → r.hi ≡ r.lo → IsBoundedRange (grid_scale_units (grid_cosine (grid_node r)) 368640000) (record { reach = 491_520_000; width = 2 })
 unfolding scale_bound
 nutation_of_obliquity r e =
     more_bounded _ _ _ _ (grid_scale_units_bounded _ (sine_bound 4) 368640000 (cosine_narrow _ (node_narrow r e))) (omega arith) (omega arith)
@@ -170,15 +170,15 @@ unfolding grid_obliquity added
 obliquity_among r e =
     let mean = mean_obliquity_within r (omega (arith, ints, e)) in
     let nutation = nutation_of_obliquity r e in
-    ranges_lie _ all_obliquities (omega (arith, ints, mean.low, nutation.size)) (omega (arith, ints, mean.high, nutation.size))
+    ranges_lie _ all_obliquities (omega (arith, ints, mean.low, nutation.reach)) (omega (arith, ints, mean.high, nutation.reach))
 
 sine_among : (r : Range) → r.hi ≡ r.lo → LiesIn (enclosure_of (grid_sine (grid_obliquity r))) (enclosure_of sines)
 sine_among r e =
     subst (λ (s : Ends). LiesIn (enclosure_of (grid_sine (grid_obliquity r))) (enclosure_of s)) sine_of_obliquities
     (grid_sine_mono (grid_obliquity r) all_obliquities (obliquity_narrow r e).ordered (obliquity_among r e))
 
-smaller : (a : Ends) (w v : ℕ) → IsBounded a (record { size = sine_limit; width = w }) → w ≤ v → pos 28640261080118977 ≤ℤ a.lo → a.hi ≤ℤ pos 28685465776125420 → IsBounded a (record { size = 42 * UNIT / 100; width = v })
-smaller a w v h k low high = record { ordered = h.ordered; size = omega (arith, ints, h.ordered); width = omega (arith, ints, h.width) }
+smaller : (a : Ends) (w v : ℕ) → IsBounded a (record { reach = sine_limit; width = w }) → w ≤ v → pos 28640261080118977 ≤ℤ a.lo → a.hi ≤ℤ pos 28685465776125420 → IsBounded a (record { reach = 42 * UNIT / 100; width = v })
+smaller a w v h k low high = record { ordered = h.ordered; reach = omega (arith, ints, h.ordered); width = omega (arith, ints, h.width) }
 
 -- ---- the sun
 

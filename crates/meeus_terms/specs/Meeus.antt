@@ -12,7 +12,7 @@ use Rattle.std.specs.Prelude.{ℕ, pos, neg_ℤ}
 use Rattle.fixed_interval.specs.Enclosure.{Enclosure, sum, difference, product, scale_units}
 use Rattle.fixed_interval.specs.Grid.{Range, enclosure_of_range, range_around, grid_scale_units}
 use Rattle.trig_series.specs.Sine.{sine, cosine, grid_sine, grid_cosine}
-use Rattle.solar_terms.specs.Ranges.{whole, added, subtracted, exactly}
+use Rattle.trig_series.specs.Ranges.{whole, added, subtracted, exactly}
 use Rattle.solar_terms.specs.Sun.{ExactSun, SunTerms}
 use Rattle.meeus_terms.specs.Polynomials.{linear, quadratic, cubic, rising, falling}
 use Rattle.meeus_terms.specs.Scaled.{grid_scale_between}

@@ -5,17 +5,16 @@ ghost use Rattle.fixed_interval.specs.Grid.{UNIT, reach};
 ghost use Rattle.fixed_interval.specs.Interval.{ends};
 ghost use Rattle.trig_series.specs.Angle.{range_of};
 ghost use Rattle.trig_series.specs.Sine.{grid_sine, grid_cosine};
-ghost use Rattle.solar_terms.specs.Ranges.{added};
+ghost use Rattle.trig_series.specs.Ranges.{added};
 ghost use Rattle.solar_terms.specs.Sun.{minutes_of, terms_of};
 ghost use Rattle.meeus_terms.specs.Meeus.{grid_mean_longitude, grid_node, grid_centre, grid_longitude, grid_obliquity, grid_meeus};
 
 use crate::lines::{
     first_coefficient, mean_anomaly, mean_longitude, mean_obliquity, node, second_coefficient,
 };
-use crate::ranges::{fixed, minus};
+use crate::ranges::fixed;
 use crate::scaled::{scaled, scaled_between};
 use fixed_interval::Interval;
-use solar_terms::ranges::plus;
 use solar_terms::{Minutes, Sun};
 use trig_series::{Angle, sine, sine_and_cosine};
 
@@ -27,11 +26,11 @@ fn centre(m: Minutes) -> Angle
     ensures high { unsigned_abs result.hi ≤ 3 * 2 ^ 42 }
 {
     let g = mean_anomaly(m);
-    let double = plus(g, g);
+    let double = g.plus(g);
     let first = scaled_between(sine(g), first_coefficient(m));
     let second = scaled_between(sine(double), second_coefficient(m));
-    let third = scaled(sine(plus(double, g)), 41_616_000);
-    plus(plus(first, second), third)
+    let third = scaled(sine(double.plus(g)), 41_616_000);
+    first.plus(second).plus(third)
 }
 
 // L0 + C.
@@ -41,7 +40,7 @@ fn true_longitude(m: Minutes) -> Angle
     ensures high { unsigned_abs result.hi ≤ 2 ^ 55 }
     ensures narrow { (result.hi -ℤ result.lo) ≤ℤ pos 30000000000000 }
 {
-    plus(mean_longitude(m), centre(m))
+    mean_longitude(m).plus(centre(m))
 }
 
 // L = L0 + C - 0.00569 - 0.00478 sin N, in degrees.
@@ -52,8 +51,8 @@ fn longitude(m: Minutes, sin_node: Interval) -> Angle
     ensures value { range_of result ≡ grid_longitude (minutes_of m) }
     ensures narrow { (result.hi -ℤ result.lo) ≤ℤ pos 51840000000000 }
 {
-    let seen = minus(true_longitude(m), fixed(819_360_000));
-    minus(seen, scaled(sin_node, 688_320_000))
+    let seen = true_longitude(m).minus(fixed(819_360_000));
+    seen.minus(scaled(sin_node, 688_320_000))
 }
 
 // e = e0 + 0.00256 cos N, in degrees.
@@ -64,7 +63,7 @@ fn obliquity(m: Minutes, cos_node: Interval) -> Angle
     ensures value { range_of result ≡ grid_obliquity (minutes_of m) }
     ensures narrow { (result.hi -ℤ result.lo) ≤ℤ pos 51840000000000 }
 {
-    plus(mean_obliquity(m), scaled(cos_node, 368_640_000))
+    mean_obliquity(m).plus(scaled(cos_node, 368_640_000))
 }
 
 /// The sun over the minutes `m`, by the low accuracy formulas of Meeus, each term an enclosure that is rounded outward.
@@ -75,6 +74,6 @@ pub fn meeus_sun(m: Minutes) -> Sun
     let node = sine_and_cosine(node(m));
     let l = sine_and_cosine(longitude(m, node.sine));
     let e = sine_and_cosine(obliquity(m, node.cosine));
-    let q = minus(mean_longitude(m), fixed(823_435_200));
+    let q = mean_longitude(m).minus(fixed(823_435_200));
     Sun::new(l.sine, l.cosine, e.sine, e.cosine, q)
 }

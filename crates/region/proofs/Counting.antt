@@ -1,5 +1,5 @@
 -- Loops that count rings and positions.
-use Rattle.std.proofs.Common.{◌≡◌, ℕ, suc, ◌+◌, ◌-◌, ◌*◌, ◌<◌, ◌≤◌, Bool, true, false, ◌&&◌, cond, List, [], ◌∷◌, ◌++◌, length, get_or, Option, Some, None, refl, sym, ap, arith, add-zero, length-append, ◌∙◌}
+use Rattle.std.proofs.Common.{◌≡◌, ℕ, suc, ◌+◌, ◌-◌, ◌*◌, ◌^◌, ◌<◌, ◌≤◌, Bool, true, false, ◌&&◌, cond, List, [], ◌∷◌, ◌++◌, length, get_or, Option, Some, None, refl, sym, ap, arith, add-zero, length-append, ◌∙◌}
 use Rattle.std.specs.Prelude.{nat_lt}
 use Rattle.std.specs.Ordering.{int_eq}
 use Rattle.std.specs.Option.{option_or}
@@ -17,7 +17,7 @@ pub record Numbered (first : ℕ) (all left : List Ring) (number : ℕ) : Type 0
 
 pub record Checked (all left : List Polygon) (number : ℕ) : Type 0 where
   pub fault_is : ring_fault number (flat_map (λ rings. rings) left) ≡ ring_fault 0 (flat_map (λ rings. rings) all)
-  pub enough : 4 * number + length (positions_of left) ≤ 4096
+  pub enough : 4 * number + length (positions_of left) < 2 ^ 64
 
 -- a ring's last position, by its index
 last_is : (p : Position) (rest : Ring) (d : Position) → get_or (p ∷ rest) (length rest) d ≡ last_after p rest

@@ -14,3 +14,5 @@ pub mod Reach
 pub mod Cut
 pub mod Keeping
 mod InBlocks
+pub mod InBounds
+pub mod EachLemmas

@@ -10,3 +10,4 @@ pub mod Vectors
 pub mod Bounds
 pub mod Strips
 pub mod Blocks
+pub mod Each

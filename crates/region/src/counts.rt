@@ -1,5 +1,5 @@
 // How many rings and positions a list of polygons has, and whether its rings are closed.
-ghost use Rattle.std.specs.Prelude.{◌≡◌, ◌+◌, ◌*◌, ◌<◌, ◌≤◌, ◌&&◌, Some, None, length, MatchOption, MatchResult};
+ghost use Rattle.std.specs.Prelude.{◌≡◌, ◌+◌, ◌*◌, ◌^◌, ◌<◌, ◌≤◌, ◌&&◌, Some, None, length, MatchOption, MatchResult};
 ghost use Rattle.std.specs.List.{flat_map};
 ghost use Rattle.std.specs.Ordering.{int_eq};
 ghost use Rattle.region.specs.Rings.{is_closed};
@@ -9,8 +9,11 @@ ghost use Rattle.region.specs.Vectors.{rings_in, polygons_in};
 
 use crate::faults::RegionFault;
 
-/// There is no polygon, or a polygon has no ring.
-pub(crate) fn lacks_ring(polygons: &[Vec<Vec<(i64, i64)>>]) -> bool
+/// The rings of a polygon, the outer one first, each a list of longitudes and latitudes in microdegrees.
+pub type RingList = Vec<Vec<(i64, i64)>>;
+
+/// Whether there is no polygon, or a polygon has no ring.
+pub fn lacks_ring(polygons: &[RingList]) -> bool
     ensures { result ≡ lacks_ring (polygons_in polygons.now) }
 {
     if polygons.is_empty() {
@@ -39,8 +42,8 @@ fn room_after(rings: &[Vec<(i64, i64)>], room: usize) -> Option<usize>
     Some(left)
 }
 
-/// What is left of the room for positions after all polygons', if they fit.
-pub(crate) fn room_left(polygons: &[Vec<Vec<(i64, i64)>>], room: usize) -> Option<usize>
+/// What is left of the room for positions after those of all polygons, None if they don't fit.
+pub fn room_left(polygons: &[RingList], room: usize) -> Option<usize>
     ensures { MatchOption result (room < length (positions_of (polygons_in polygons.now)))
         (λ left. left + length (positions_of (polygons_in polygons.now)) ≡ room) }
 {
@@ -71,7 +74,7 @@ fn is_closed(ring: &[(i64, i64)]) -> bool
 // The number of the ring after a polygon's rings, the first of which has the number given, if each
 // is long enough and closed.
 fn number_after(rings: &[Vec<(i64, i64)>], first: u64) -> Result<u64, RegionFault>
-    requires { 4 * first + length (flat_map (λ ring. ring) (rings_in rings.now)) ≤ 4096 }
+    requires { 4 * first + length (flat_map (λ ring. ring) (rings_in rings.now)) < 2 ^ 64 }
     ensures { MatchResult result
         (λ number. (ring_fault first (rings_in rings.now) ≡ None)
         × (number ≡ first + length (rings_in rings.now))
@@ -91,9 +94,9 @@ fn number_after(rings: &[Vec<(i64, i64)>], first: u64) -> Result<u64, RegionFaul
     Ok(number)
 }
 
-/// The first ring that is short or open decides.
-pub(crate) fn check_rings(polygons: &[Vec<Vec<(i64, i64)>>]) -> Result<(), RegionFault>
-    requires { length (positions_of (polygons_in polygons.now)) ≤ 4096 }
+/// Refuses the first ring that has fewer than four positions or doesn't end where it begins.
+pub fn check_rings(polygons: &[RingList]) -> Result<(), RegionFault>
+    requires { length (positions_of (polygons_in polygons.now)) < 2 ^ 64 }
     ensures { MatchResult result
         (λ _. ring_fault 0 (flat_map (λ rings. rings) (polygons_in polygons.now)) ≡ None)
         (λ fault. ring_fault 0 (flat_map (λ rings. rings) (polygons_in polygons.now)) ≡ Some fault) }

@@ -13,6 +13,7 @@ ghost use Rattle.region.specs.Vectors.{rings_in, polygons_in};
 ghost use Rattle.region.specs.Views.{place_of, box_of};
 
 use crate::bands::{Band, band_of};
+use crate::counts::RingList;
 use crate::edge_points::corner;
 use crate::faults::RegionFault;
 use crate::points::Point;
@@ -50,7 +51,7 @@ impl Model for District {
 }
 
 // The rings, each with its one list of positions.
-fn ring_list(alloc: Global, rings: Vec<Vec<(i64, i64)>>) -> Result<Vec<Ring>, AllocError>
+fn ring_list(alloc: Global, rings: RingList) -> Result<Vec<Ring>, AllocError>
     requires { IsTrue (list_all is_compact (rings_in rings.items)) }
     ensures { IfOk result (λ list. list.items ≡ rings_in rings.items) }
 {
@@ -61,10 +62,7 @@ fn ring_list(alloc: Global, rings: Vec<Vec<(i64, i64)>>) -> Result<Vec<Ring>, Al
     Ok(list)
 }
 
-fn polygon_list(
-    alloc: Global,
-    polygons: Vec<Vec<Vec<(i64, i64)>>>,
-) -> Result<Vec<Polygon>, AllocError>
+fn polygon_list(alloc: Global, polygons: Vec<RingList>) -> Result<Vec<Polygon>, AllocError>
     requires { IsTrue (list_all (list_all is_compact) (polygons_in polygons.items)) }
     ensures { IfOk result (λ list. list.items ≡ polygons_in polygons.items) }
 {
@@ -79,7 +77,7 @@ impl District {
     /// The district of these polygons, each a list of rings, each a list of positions (longitude,
     /// latitude) in microdegrees. The first fault, in this order: no polygon or ring, too many
     /// positions, the first ring that is short or open, too far, too wide.
-    pub fn new(alloc: Global, polygons: Vec<Vec<Vec<(i64, i64)>>>) -> Result<District, RegionFault>
+    pub fn new(alloc: Global, polygons: Vec<RingList>) -> Result<District, RegionFault>
         ensures ok { IfOk result (λ district. district ≡ polygons_in polygons.items) }
         ensures sound { OnOk result (first_fault (polygons_in polygons.items) ≡ None) }
         ensures fault { IfErr result (λ fault. (fault ≡ RegionFault.NoMemory) ⊎ (first_fault (polygons_in polygons.items) ≡ Some fault)) }

@@ -12,13 +12,15 @@ use crate::exact::scaled;
 use crate::points::Point;
 use crate::rects::Rect;
 
-pub(crate) fn are_below(u: i64, v: i64, z: i64) -> bool
+/// Both ends are less than a number.
+pub fn are_below(u: i64, v: i64, z: i64) -> bool
     ensures { result ≡ (int_lt u z && int_lt v z) }
 {
     u < z && v < z
 }
 
-pub(crate) fn are_above(u: i64, v: i64, z: i64) -> bool
+/// Both ends are greater than a number.
+pub fn are_above(u: i64, v: i64, z: i64) -> bool
     ensures { result ≡ (int_lt z u && int_lt z v) }
 {
     z < u && z < v

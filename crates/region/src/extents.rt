@@ -6,6 +6,7 @@ ghost use Rattle.region.specs.Extent.{is_far, positions_of};
 ghost use Rattle.region.specs.Vectors.{rings_in, polygons_in};
 
 use crate::bounds::Bounds;
+use crate::counts::RingList;
 
 // Farther than 360 degrees of longitude or 65 degrees of latitude, either way.
 fn is_far(p: (i64, i64)) -> bool
@@ -36,8 +37,8 @@ fn any_far_ring(rings: &[Vec<(i64, i64)>]) -> bool
     false
 }
 
-/// Some position is too far from the meridian or the equator.
-pub(crate) fn reaches_far(polygons: &[Vec<Vec<(i64, i64)>>]) -> bool
+/// Whether some position, in microdegrees, is over 360 degrees of longitude or 65 degrees of latitude, either way.
+pub fn reaches_far(polygons: &[RingList]) -> bool
     ensures { result ≡ list_any is_far (positions_of (polygons_in polygons.now)) }
 {
     for rings in polygons {
@@ -87,7 +88,7 @@ fn rings_bounds(bounds: Option<Bounds>, rings: &[Vec<(i64, i64)>]) -> Option<Bou
     grown
 }
 
-fn all_bounds(polygons: &[Vec<Vec<(i64, i64)>>]) -> Option<Bounds>
+fn all_bounds(polygons: &[RingList]) -> Option<Bounds>
     ensures { result ≡ fold widened None (positions_of (polygons_in polygons.now)) }
 {
     let mut grown = None;
@@ -112,7 +113,7 @@ fn or_zero(bounds: Option<Bounds>) -> Bounds
 }
 
 /// The least box round all positions.
-pub(crate) fn bounds_of(polygons: &[Vec<Vec<(i64, i64)>>]) -> Bounds
+pub(crate) fn bounds_of(polygons: &[RingList]) -> Bounds
     ensures { result ≡ bounds_of (polygons_in polygons.now) }
 {
     or_zero(all_bounds(polygons))

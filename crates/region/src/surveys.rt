@@ -3,7 +3,7 @@ ghost use Rattle.std.specs.Prelude.{◌≡◌, Some, MatchResult};
 ghost use Rattle.region.specs.Faults.{first_fault, IsSurveyed};
 ghost use Rattle.region.specs.Vectors.{polygons_in};
 
-use crate::counts::{check_rings, lacks_ring, room_left};
+use crate::counts::{RingList, check_rings, lacks_ring, room_left};
 use crate::extents::{bounds_of, reaches_far, spans_wide};
 use crate::faults::RegionFault;
 
@@ -20,7 +20,7 @@ pub(crate) struct Survey {
 }
 
 /// The survey of the polygons, or their first fault.
-pub(crate) fn survey_of(polygons: &[Vec<Vec<(i64, i64)>>]) -> Result<Survey, RegionFault>
+pub(crate) fn survey_of(polygons: &[RingList]) -> Result<Survey, RegionFault>
     ensures { MatchResult result
         (λ s. IsSurveyed (polygons_in polygons.now) s.west s.east s.south s.north s.positions)
         (λ fault. first_fault (polygons_in polygons.now) ≡ Some fault) }

@@ -1,4 +1,3 @@
-pub mod RangeLemmas
 pub mod RangeLaws
 pub mod Sizes
 pub mod Narrowing

@@ -6,7 +6,7 @@ use Rattle.fixed_interval.specs.Enclosure.{Enclosure, IsOrdered, LiesIn, negated
 use Rattle.fixed_interval.specs.Grid.{Range, enclosure_of_range}
 use Rattle.fixed_interval.proofs.FractionLaws.{≤ᶠ_refl}
 use Rattle.fixed_interval.proofs.EnclosureLaws.{LiesIn_refl, LiesIn_trans, sum_mono, difference_mono, scale_units_mono}
-use Rattle.solar_terms.specs.Ranges.{whole, added, subtracted, scaled, exactly}
+use Rattle.trig_series.specs.Ranges.{whole, added, subtracted, scaled, exactly}
 
 -- ---- at whole numbers nothing is rounded
 

@@ -14,7 +14,7 @@ use Rattle.trig_series.specs.Series.{margin, next_grid_term, grid_term, grid_par
 use Rattle.trig_series.specs.Sine.{grid_quarters_on, grid_sine_beyond, grid_sine}
 use Rattle.trig_series.proofs.SineLaws.{grid_sine_mono}
 use Rattle.trig_series.proofs.SineWidths.{grid_sine_narrow, grid_cosine_narrow}
-use Rattle.solar_terms.specs.Ranges.{whole, added, subtracted, scaled}
+use Rattle.trig_series.specs.Ranges.{whole, added, subtracted, scaled}
 use Rattle.solar_terms.specs.Sun.{grid_mean_anomaly, grid_mean_longitude, grid_obliquity, grid_longitude, grid_sun}
 use Rattle.solar_terms.specs.SunWidths.{ObservatoryIsNarrow}
 
@@ -37,7 +37,7 @@ unfolding grid_obliquity whole subtracted scaled
 one_obliquity r e = omega (arith, ints, e)
 
 -- a term of the equation of the centre, of one angle: at most 3 units wide
-term_narrow : (r : Range) (n : ℕ) → r.hi ≡ r.lo → n ≤ 2 ^ 39 → IsBoundedRange (grid_scale_units (grid_sine r) n) (record { size = 2 ^ 41; width = 2 })
+term_narrow : (r : Range) (n : ℕ) → r.hi ≡ r.lo → n ≤ 2 ^ 39 → IsBoundedRange (grid_scale_units (grid_sine r) n) (record { reach = 2 ^ 41; width = 2 })
 unfolding scale_bound
 term_narrow r n e h =
     let bounded = grid_scale_units_bounded (grid_sine r) (sine_bound 0) n (grid_sine_narrow r 0 (lit≤ tt) (omega (arith, ints, e)) (omega (arith, ints, e))) in
@@ -78,8 +78,8 @@ sine_among r e h =
     subst (λ (s : Ends). LiesIn (enclosure_of (grid_sine (grid_obliquity r))) (enclosure_of s)) sine_of_obliquities
     (grid_sine_mono (grid_obliquity r) all_obliquities (omega (arith, ints, one_obliquity r e)) (obliquity_among r e h))
 
-smaller : (a : Ends) (w v : ℕ) → IsBounded a (record { size = sine_limit; width = w }) → w ≤ v → pos 28644382248719973 ≤ℤ a.lo → a.hi ≤ℤ pos 28680674040111023 → IsBounded a (record { size = 42 * UNIT / 100; width = v })
-smaller a w v h k low high = record { ordered = h.ordered; size = omega (arith, ints, h.ordered); width = omega (arith, ints, h.width) }
+smaller : (a : Ends) (w v : ℕ) → IsBounded a (record { reach = sine_limit; width = w }) → w ≤ v → pos 28644382248719973 ≤ℤ a.lo → a.hi ≤ℤ pos 28680674040111023 → IsBounded a (record { reach = 42 * UNIT / 100; width = v })
+smaller a w v h k low high = record { ordered = h.ordered; reach = omega (arith, ints, h.ordered); width = omega (arith, ints, h.width) }
 
 -- ---- the sun
 

@@ -1,4 +1,3 @@
-pub mod Ranges
 pub mod Sun
 pub mod SunLaws
 pub mod SunWidths

@@ -11,7 +11,7 @@ use Rattle.fixed_interval.specs.Grid.{Ends, Range, grid_scale_units}
 use Rattle.fixed_interval.specs.Interval.{ends}
 use Rattle.trig_series.specs.Sine.{sine, cosine, grid_sine, grid_cosine}
 use Rattle.trig_series.specs.Angle.{range_of}
-use Rattle.solar_terms.specs.Ranges.{whole, added, subtracted, scaled, exactly}
+use Rattle.trig_series.specs.Ranges.{whole, added, subtracted, scaled, exactly}
 use Rattle.solar_terms.specs.declared.Minutes.{Minutes}
 use Rattle.solar_terms.specs.declared.Sun.{Sun}
 

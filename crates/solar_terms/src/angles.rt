@@ -33,7 +33,7 @@ fn obliquity_at(k: i64) -> i128
 }
 
 // g rises with the minutes.
-#[tactic(auto, unfolding(crate::specs::Ranges::whole, crate::specs::Ranges::added, crate::specs::Ranges::scaled, crate::specs::Sun::grid_mean_anomaly))]
+#[tactic(auto, unfolding(trig_series::specs::Ranges::whole, trig_series::specs::Ranges::added, trig_series::specs::Ranges::scaled, crate::specs::Sun::grid_mean_anomaly))]
 pub(crate) fn mean_anomaly(m: Minutes) -> Angle
     ensures value { range_of result ≡ grid_mean_anomaly (minutes_of m) }
     ensures low { unsigned_abs result.lo ≤ 2 ^ 53 }
@@ -44,7 +44,7 @@ pub(crate) fn mean_anomaly(m: Minutes) -> Angle
 }
 
 // q rises with the minutes.
-#[tactic(auto, unfolding(crate::specs::Ranges::whole, crate::specs::Ranges::added, crate::specs::Ranges::scaled, crate::specs::Sun::grid_mean_longitude))]
+#[tactic(auto, unfolding(trig_series::specs::Ranges::whole, trig_series::specs::Ranges::added, trig_series::specs::Ranges::scaled, crate::specs::Sun::grid_mean_longitude))]
 pub(crate) fn mean_longitude(m: Minutes) -> Angle
     ensures value { range_of result ≡ grid_mean_longitude (minutes_of m) }
     ensures low { unsigned_abs result.lo ≤ 2 ^ 53 }
@@ -55,7 +55,7 @@ pub(crate) fn mean_longitude(m: Minutes) -> Angle
 }
 
 // e falls with the minutes.
-#[tactic(auto, unfolding(crate::specs::Ranges::whole, crate::specs::Ranges::subtracted, crate::specs::Ranges::scaled, crate::specs::Sun::grid_obliquity))]
+#[tactic(auto, unfolding(trig_series::specs::Ranges::whole, trig_series::specs::Ranges::subtracted, trig_series::specs::Ranges::scaled, crate::specs::Sun::grid_obliquity))]
 pub(crate) fn obliquity(m: Minutes) -> Angle
     ensures value { range_of result ≡ grid_obliquity (minutes_of m) }
     ensures narrow { (result.hi -ℤ result.lo) ≤ℤ pos 72000000000 }

@@ -9,7 +9,6 @@ ghost use Rattle.fixed_interval.specs.Interval.{ends};
 mod angles;
 pub mod laws;
 pub mod observatory;
-pub mod ranges;
 
 use fixed_interval::Interval;
 use trig_series::Angle;

@@ -5,7 +5,6 @@ ghost use Rattle.trig_series.specs.Angle.{range_of};
 ghost use Rattle.solar_terms.specs.Sun.{minutes_of, terms_of, grid_longitude, grid_sun};
 
 use crate::angles::{mean_anomaly, mean_longitude, obliquity, scaled_sine};
-use crate::ranges::plus;
 use crate::{Minutes, Sun};
 use trig_series::{Angle, sine_and_cosine};
 
@@ -17,8 +16,8 @@ fn longitude(m: Minutes) -> Angle
 {
     let g = mean_anomaly(m);
     let first = scaled_sine(g, 275_760_000_000);
-    let second = scaled_sine(plus(g, g), 2_880_000_000);
-    plus(plus(mean_longitude(m), first), second)
+    let second = scaled_sine(g.plus(g), 2_880_000_000);
+    mean_longitude(m).plus(first).plus(second)
 }
 
 /// The sun over the minutes `m`, by the approximate solar coordinates of the US Naval Observatory,

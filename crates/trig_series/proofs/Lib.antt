@@ -18,3 +18,4 @@ pub mod SineLaws
 pub mod SineNesting
 pub mod PieceWidths
 pub mod SineWidths
+pub mod RangeLemmas

@@ -10,14 +10,14 @@ use Rattle.trig_series.specs.Series.{divisor, next_grid_term, grid_term, grid_pa
 use Rattle.trig_series.proofs.Margins.{size, size_within, grid_margin-is}
 
 pub record Linear : Type 0 where
-  pub size : ℕ
+  pub reach : ℕ
   pub slope : ℕ
   pub rest : ℕ
 
--- e reaches no farther than the size, and is no wider than this at an argument v wide
+-- e lies within the reach, and is no wider than this at an argument v wide
 pub record IsNarrow (v : ℕ) (b : Linear) (e : Ends) : Type 0 where
   pub width : ℕ
-  pub bounded : IsBounded e (record { size = b.size; width = width })
+  pub bounded : IsBounded e (record { reach = b.reach; width = width })
   pub linear : width * UNIT ≤ b.slope * v + b.rest
 
 -- ---- quotients rounded up
@@ -38,13 +38,13 @@ part_linear w slope rest v n p h =
 
 -- ---- each operation
 unfoldable pub sum_linear : Linear → Linear → Linear
-sum_linear a b = record { size = a.size + b.size; slope = a.slope + b.slope; rest = a.rest + b.rest }
+sum_linear a b = record { reach = a.reach + b.reach; slope = a.slope + b.slope; rest = a.rest + b.rest }
 
 unfoldable pub product_linear : Linear → Linear → Linear
-product_linear a b = record { size = div_ceil (a.size * b.size) UNIT; slope = div_ceil (a.size * b.slope + b.size * a.slope) UNIT; rest = div_ceil (a.size * b.rest + b.size * a.rest) UNIT + 2 * UNIT }
+product_linear a b = record { reach = div_ceil (a.reach * b.reach) UNIT; slope = div_ceil (a.reach * b.slope + b.reach * a.slope) UNIT; rest = div_ceil (a.reach * b.rest + b.reach * a.rest) UNIT + 2 * UNIT }
 
 unfoldable pub part_of_linear : Linear → ℕ → Linear
-part_of_linear a n = record { size = div_ceil a.size n; slope = div_ceil a.slope n; rest = div_ceil a.rest n + 2 * UNIT }
+part_of_linear a n = record { reach = div_ceil a.reach n; slope = div_ceil a.slope n; rest = div_ceil a.rest n + 2 * UNIT }
 
 pub sum_narrow : (v : ℕ) (p q : Linear) (a b : Ends) → IsNarrow v p a → IsNarrow v q b → IsNarrow v (sum_linear p q) (grid_sum a b)
 unfolding sum_linear sum_bound
@@ -52,7 +52,7 @@ sum_narrow v p q a b h k = record { width = h.width + k.width; bounded = grid_su
 
 pub product_narrow : (v : ℕ) (p q : Linear) (a b : Ends) → IsNarrow v p a → IsNarrow v q b → IsNarrow v (product_linear p q) (grid_product a b)
 unfolding product_linear product_bound ratio_bound
-product_narrow v p q a b h k = record { width = div_ceil (p.size * k.width + q.size * h.width) UNIT + 1; bounded = grid_product_bounded a b _ _ h.bounded k.bounded; linear = core p.size q.size h.width k.width p.slope q.slope p.rest q.rest h.linear k.linear }
+product_narrow v p q a b h k = record { width = div_ceil (p.reach * k.width + q.reach * h.width) UNIT + 1; bounded = grid_product_bounded a b _ _ h.bounded k.bounded; linear = core p.reach q.reach h.width k.width p.slope q.slope p.rest q.rest h.linear k.linear }
   where
     core : (s t x y σ τ ρ π : ℕ) → x * UNIT ≤ σ * v + ρ → y * UNIT ≤ τ * v + π → (div_ceil (s * y + t * x) UNIT + 1) * UNIT ≤ div_ceil (s * τ + t * σ) UNIT * v + (div_ceil (s * π + t * ρ) UNIT + 2 * UNIT)
     core s t x y σ τ ρ π f g =
@@ -74,21 +74,21 @@ pub part_narrow : (v : ℕ) (p : Linear) (n : ℕ) (a : Ends) → 0 < n → IsNa
 unfolding part_of_linear divide_bound
 part_narrow v p n a g h = record { width = div_ceil h.width n + 1; bounded = grid_divide_by_bounded a _ n g h.bounded; linear = rounded_linear h.width p.slope p.rest v n g h.linear }
 
-pub more_narrow : (v : ℕ) (p q : Linear) (e : Ends) → p.size ≤ q.size → p.slope ≤ q.slope → p.rest ≤ q.rest → IsNarrow v p e → IsNarrow v q e
+pub more_narrow : (v : ℕ) (p q : Linear) (e : Ends) → p.reach ≤ q.reach → p.slope ≤ q.slope → p.rest ≤ q.rest → IsNarrow v p e → IsNarrow v q e
 more_narrow v p q e f g k h = record { width = h.width; bounded = more_bounded e.lo e.hi _ _ h.bounded f (le_refl h.width); linear = omega (arith, h.linear, mul-le-mul_right v g, k) }
 
 pub negated_narrow : (v : ℕ) (p : Linear) (a : Ends) → IsNarrow v p a → IsNarrow v p (grid_negated a)
 negated_narrow v p a h = record { width = h.width; bounded = grid_negated_bounded a _ h.bounded; linear = h.linear }
 
 unfoldable pub margin_linear : Linear → Linear
-margin_linear a = record { size = 2 * a.size; slope = 0; rest = 4 * a.size * UNIT }
+margin_linear a = record { reach = 2 * a.reach; slope = 0; rest = 4 * a.reach * UNIT }
 
 pub margin_narrow : (v : ℕ) (p : Linear) (a : Ends) → IsNarrow v p a → IsNarrow v (margin_linear p) (grid_margin a)
 unfolding margin_linear
-margin_narrow v p a h = record { width = 4 * p.size; bounded = subst (λ (e : Ends). IsBounded e (record { size = 2 * p.size; width = 4 * p.size })) (sym (grid_margin-is a)) (core (size a) (size_within a p.size h.bounded.ordered h.bounded.size)); linear = omega arith }
+margin_narrow v p a h = record { width = 4 * p.reach; bounded = subst (λ (e : Ends). IsBounded e (record { reach = 2 * p.reach; width = 4 * p.reach })) (sym (grid_margin-is a)) (core (size a) (size_within a p.reach h.bounded.ordered h.bounded.reach)); linear = omega arith }
   where
-    core : (z : ℤ) → (pos 0 ≤ℤ z) × (unsigned_abs z ≤ p.size) → AreBounded (neg_ℤ (z *ℤ pos 2)) (z *ℤ pos 2) (record { size = 2 * p.size; width = 4 * p.size })
-    core z w = record { ordered = omega (arith, ints, w.0); size = omega (arith, ints, w.1); width = omega (arith, ints, w.0, w.1) }
+    core : (z : ℤ) → (pos 0 ≤ℤ z) × (unsigned_abs z ≤ p.reach) → AreBounded (neg_ℤ (z *ℤ pos 2)) (z *ℤ pos 2) (record { reach = 2 * p.reach; width = 4 * p.reach })
+    core z w = record { ordered = omega (arith, ints, w.0); reach = omega (arith, ints, w.1); width = omega (arith, ints, w.0, w.1) }
 
 -- ---- series
 divisor_positive : (power j : ℕ) → 0 < divisor power j
@@ -99,7 +99,7 @@ term_linear power first square zero = first
 term_linear power first square (suc j) = part_of_linear (product_linear (term_linear power first square j) square) (divisor power j)
 
 unfoldable pub sum_of_linear : (ℕ → Linear) → ℕ → Linear
-sum_of_linear terms zero = record { size = 0; slope = 0; rest = 0 }
+sum_of_linear terms zero = record { reach = 0; slope = 0; rest = 0 }
 sum_of_linear terms (suc n) = sum_linear (sum_of_linear terms n) (terms n)
 
 unfoldable pub series_linear : (ℕ → Linear) → ℕ → Linear
@@ -112,7 +112,7 @@ term_narrow v power p q first square h k (suc j) = negated_narrow v _ _ (part_na
 
 pub sum_of_narrow : (v : ℕ) (ps : ℕ → Linear) (terms : ℕ → Ends) → ((j : ℕ) → IsNarrow v (ps j) (terms j)) → (n : ℕ) → IsNarrow v (sum_of_linear ps n) (grid_partial_sum terms n)
 unfolding sum_of_linear grid_partial_sum
-sum_of_narrow v ps terms h zero = record { width = 0; bounded = record { ordered = omega (arith, ints); size = lit≤ tt; width = omega (arith, ints) }; linear = omega arith }
+sum_of_narrow v ps terms h zero = record { width = 0; bounded = record { ordered = omega (arith, ints); reach = lit≤ tt; width = omega (arith, ints) }; linear = omega arith }
 sum_of_narrow v ps terms h (suc n) = sum_narrow v _ _ _ _ (sum_of_narrow v ps terms h n) (h n)
 
 pub series_narrow : (v : ℕ) (ps : ℕ → Linear) (terms : ℕ → Ends) → ((j : ℕ) → IsNarrow v (ps j) (terms j)) → (n : ℕ) → IsNarrow v (series_linear ps n) (grid_series terms n)

@@ -20,10 +20,10 @@ pi_top = 226375608064910089
 
 -- radians are 8,734 steps a unit
 abbrev pub radians_linear : Linear
-radians_linear = record { size = 56_593_902_016_227_523; slope = div_ceil (pi_top * UNIT) half_turn; rest = div_ceil (eighth_turn * UNIT) half_turn + 2 * UNIT }
+radians_linear = record { reach = 56_593_902_016_227_523; slope = div_ceil (pi_top * UNIT) half_turn; rest = div_ceil (eighth_turn * UNIT) half_turn + 2 * UNIT }
 
-pub pi_bounded : IsBounded grid_pi (record { size = pi_top; width = 1 })
-pi_bounded = subst (λ (e : Ends). IsBounded e (record { size = pi_top; width = 1 })) (sym grid_pi-is) (record { ordered = omega (arith, ints); size = lit≤ tt; width = omega (arith, ints) })
+pub pi_bounded : IsBounded grid_pi (record { reach = pi_top; width = 1 })
+pi_bounded = subst (λ (e : Ends). IsBounded e (record { reach = pi_top; width = 1 })) (sym grid_pi-is) (record { ordered = omega (arith, ints); reach = lit≤ tt; width = omega (arith, ints) })
 
 -- a range of u units within an eighth of a turn of zero
 pub record IsSmall (u : ℕ) (r : Range) : Type 0 where
@@ -35,31 +35,31 @@ pub record IsSmall (u : ℕ) (r : Range) : Type 0 where
 pub radians_narrow : (u : ℕ) (r : Range) → IsSmall u r → IsNarrow u radians_linear (grid_times_ratio grid_pi r half_turn)
 unfolding ratio_bound
 radians_narrow u r h =
-    let bounded : IsBoundedRange r (record { size = eighth_turn; width = u }) = record { ordered = h.ordered; size = omega (arith, ints, h.from, h.ordered, h.to); width = h.width } in
+    let bounded : IsBoundedRange r (record { reach = eighth_turn; width = u }) = record { ordered = h.ordered; reach = omega (arith, ints, h.from, h.ordered, h.to); width = h.width } in
     record {
       width = div_ceil (pi_top * u + eighth_turn * 1) half_turn + 1;
       bounded = grid_times_ratio_bounded grid_pi r _ _ half_turn (lit≤ tt) pi_bounded bounded;
       linear = rounded_linear (pi_top * u + eighth_turn * 1) (pi_top * UNIT) (eighth_turn * UNIT) u half_turn (lit≤ tt) (omega arith);
     }
 
-one_narrow : (u : ℕ) → IsNarrow u (record { size = UNIT; slope = 0; rest = 0 }) grid_one
-one_narrow u = record { width = 0; bounded = record { ordered = omega (arith, ints); size = lit≤ tt; width = omega (arith, ints) }; linear = omega arith }
+one_narrow : (u : ℕ) → IsNarrow u (record { reach = UNIT; slope = 0; rest = 0 }) grid_one
+one_narrow u = record { width = 0; bounded = record { ordered = omega (arith, ints); reach = lit≤ tt; width = omega (arith, ints) }; linear = omega arith }
 
 -- what both series meet: they reach no farther than 4/3
 abbrev pub either_linear : Linear
-either_linear = record { size = sine_limit; slope = 11_569 * UNIT; rest = 31 * UNIT }
+either_linear = record { reach = sine_limit; slope = 11_569 * UNIT; rest = 31 * UNIT }
 
 abbrev sine_linear : Linear
 sine_linear = series_linear (term_linear 1 radians_linear (product_linear radians_linear radians_linear)) DEPTH
 
 abbrev cosine_linear : Linear
-cosine_linear = series_linear (term_linear 0 (record { size = UNIT; slope = 0; rest = 0 }) (product_linear radians_linear radians_linear)) DEPTH
+cosine_linear = series_linear (term_linear 0 (record { reach = UNIT; slope = 0; rest = 0 }) (product_linear radians_linear radians_linear)) DEPTH
 
-sine_within : (sine_linear.size ≤ either_linear.size) × (sine_linear.slope ≤ either_linear.slope) × (sine_linear.rest ≤ either_linear.rest)
+sine_within : (sine_linear.reach ≤ either_linear.reach) × (sine_linear.slope ≤ either_linear.slope) × (sine_linear.rest ≤ either_linear.rest)
 unfolding series_linear sum_of_linear term_linear product_linear part_of_linear sum_linear margin_linear
 sine_within = (lit≤ tt, lit≤ tt, lit≤ tt)
 
-cosine_within : (cosine_linear.size ≤ either_linear.size) × (cosine_linear.slope ≤ either_linear.slope) × (cosine_linear.rest ≤ either_linear.rest)
+cosine_within : (cosine_linear.reach ≤ either_linear.reach) × (cosine_linear.slope ≤ either_linear.slope) × (cosine_linear.rest ≤ either_linear.rest)
 unfolding series_linear sum_of_linear term_linear product_linear part_of_linear sum_linear margin_linear
 cosine_within = (lit≤ tt, lit≤ tt, lit≤ tt)
 
@@ -90,10 +90,10 @@ small : (r : Range) → neg_ℤ (pos eighth_turn) ≤ℤ r.lo → r.lo ≤ℤ r.
 small r l o h = record { from = l; ordered = o; to = h; width = omega (arith, ints) }
 
 pub reach-radians : (r : Range) → neg_ℤ (pos eighth_turn) ≤ℤ r.lo → r.lo ≤ℤ r.hi → r.hi ≤ℤ pos eighth_turn → reach (grid_times_ratio grid_pi r half_turn) ≤ UNIT
-reach-radians r l o h = le_trans (radians_narrow quarter_turn r (small r l o h)).bounded.size (lit≤ tt)
+reach-radians r l o h = le_trans (radians_narrow quarter_turn r (small r l o h)).bounded.reach (lit≤ tt)
 
 pub reach-grid_sine_beyond : (c : ℤ) (r : Range) → neg_ℤ (pos eighth_turn) ≤ℤ r.lo → r.lo ≤ℤ r.hi → r.hi ≤ℤ pos eighth_turn → reach (grid_sine_beyond c r) ≤ sine_limit
-reach-grid_sine_beyond c r l o h = (sine_beyond_narrow quarter_turn c r (small r l o h)).bounded.size
+reach-grid_sine_beyond c r l o h = (sine_beyond_narrow quarter_turn c r (small r l o h)).bounded.reach
 
 -- in a quarter that the range meets, with whole quarters added
 pub reach-in_quarter : (r : Range) (c d : ℤ) → r.lo ≤ℤ r.hi → Meets r c → reach (grid_sine_beyond d (grid_piece r c)) ≤ sine_limit

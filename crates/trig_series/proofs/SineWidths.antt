@@ -243,10 +243,10 @@ pub grid_cosine_narrow : (r : Range) (u : ℕ) → u < quarter_turn → r.lo ≤
 unfolding grid_cosine part
 grid_cosine_narrow r u s o h = over_quarters_narrow (λ c. c +ℤ pos 1) (λ c. refl) r u s o h
 
-pub grid_sine_smallest : (r : Range) → r.lo ≤ℤ r.hi → r.hi ≤ℤ (r.lo +ℤ pos 18_000) → IsBounded (grid_sine r) (record { size = sine_limit; width = 2 ^ 28 })
+pub grid_sine_smallest : (r : Range) → r.lo ≤ℤ r.hi → r.hi ≤ℤ (r.lo +ℤ pos 18_000) → IsBounded (grid_sine r) (record { reach = sine_limit; width = 2 ^ 28 })
 grid_sine_smallest r o h = more_bounded (grid_sine r).lo (grid_sine r).hi (sine_bound 18_000) _ (grid_sine_narrow r 18_000 (lit≤ tt) o h) (lit≤ tt) (lit≤ tt)
 
-pub grid_cosine_smallest : (r : Range) → r.lo ≤ℤ r.hi → r.hi ≤ℤ (r.lo +ℤ pos 18_000) → IsBounded (grid_cosine r) (record { size = sine_limit; width = 2 ^ 28 })
+pub grid_cosine_smallest : (r : Range) → r.lo ≤ℤ r.hi → r.hi ≤ℤ (r.lo +ℤ pos 18_000) → IsBounded (grid_cosine r) (record { reach = sine_limit; width = 2 ^ 28 })
 grid_cosine_smallest r o h = more_bounded (grid_cosine r).lo (grid_cosine r).hi (sine_bound 18_000) _ (grid_cosine_narrow r 18_000 (lit≤ tt) o h) (lit≤ tt) (lit≤ tt)
 
 -- ---- no sine reaches past the limit

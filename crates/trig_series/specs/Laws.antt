@@ -58,14 +58,14 @@ sine_limit = 96_076_792_050_570_581
 
 -- how far a sine or a cosine reaches, and how wide it may be over u angle units
 abbrev pub sine_bound : ℕ → Bound
-sine_bound u = record { size = sine_limit; width = 11_569 * u + 62 }
+sine_bound u = record { reach = sine_limit; width = 11_569 * u + 62 }
 
 -- no sine reaches past 4/3, and a narrow range has a narrow sine, across the seams too: over 18,000 units at most 2^-28
 pub record SinesAreBounded : Type 0 where
-  pub of_pi : IsBounded grid_pi (record { size = 226_375_608_064_910_089; width = 1 })
+  pub of_pi : IsBounded grid_pi (record { reach = 226_375_608_064_910_089; width = 1 })
   pub of_any_sine : (r : Range) → r.lo ≤ℤ r.hi → reach (grid_sine r) ≤ sine_limit
   pub of_any_cosine : (r : Range) → r.lo ≤ℤ r.hi → reach (grid_cosine r) ≤ sine_limit
   pub of_sine : (r : Range) (u : ℕ) → u < quarter_turn → r.lo ≤ℤ r.hi → r.hi ≤ℤ (r.lo +ℤ pos u) → IsBounded (grid_sine r) (sine_bound u)
   pub of_cosine : (r : Range) (u : ℕ) → u < quarter_turn → r.lo ≤ℤ r.hi → r.hi ≤ℤ (r.lo +ℤ pos u) → IsBounded (grid_cosine r) (sine_bound u)
-  pub of_smallest_sine : (r : Range) → r.lo ≤ℤ r.hi → r.hi ≤ℤ (r.lo +ℤ pos 18_000) → IsBounded (grid_sine r) (record { size = sine_limit; width = 2 ^ 28 })
-  pub of_smallest_cosine : (r : Range) → r.lo ≤ℤ r.hi → r.hi ≤ℤ (r.lo +ℤ pos 18_000) → IsBounded (grid_cosine r) (record { size = sine_limit; width = 2 ^ 28 })
+  pub of_smallest_sine : (r : Range) → r.lo ≤ℤ r.hi → r.hi ≤ℤ (r.lo +ℤ pos 18_000) → IsBounded (grid_sine r) (record { reach = sine_limit; width = 2 ^ 28 })
+  pub of_smallest_cosine : (r : Range) → r.lo ≤ℤ r.hi → r.hi ≤ℤ (r.lo +ℤ pos 18_000) → IsBounded (grid_cosine r) (record { reach = sine_limit; width = 2 ^ 28 })

@@ -1,4 +1,5 @@
 pub mod Angle
+pub mod Ranges
 pub mod Magnitudes
 pub mod Short
 pub mod Pi

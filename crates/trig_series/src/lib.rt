@@ -8,6 +8,7 @@ mod laws;
 mod magnitudes;
 mod quarters;
 mod radians;
+mod ranges;
 mod series;
 mod short;
 

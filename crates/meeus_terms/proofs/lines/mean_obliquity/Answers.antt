@@ -1,6 +1,6 @@
 use Rattle.std.proofs.Common.{ℤ, pos, neg_ℤ, arith, ap, lit≤}
 use Rattle.std.proofs.lemmas.Int.{ints}
-use Rattle.solar_terms.proofs.RangeLemmas.{same_range}
+use Rattle.trig_series.proofs.RangeLemmas.{same_range}
 use Rattle.fixed_interval.specs.Grid.{Range, enclosure_of_range, range_around}
 use Rattle.meeus_terms.specs.Meeus.{mean_obliquity, grid_mean_obliquity}
 use Rattle.meeus_terms.specs.Polynomials.{cubic_top, falling}

@@ -1,6 +1,6 @@
 use Rattle.std.proofs.Common.{ℤ, pos, neg_ℤ, arith, lit≤}
 use Rattle.std.proofs.lemmas.Int.{ints}
-use Rattle.solar_terms.proofs.RangeLemmas.{same_range}
+use Rattle.trig_series.proofs.RangeLemmas.{same_range}
 use Rattle.fixed_interval.specs.Grid.{enclosure_of_range, range_around}
 use Rattle.meeus_terms.specs.Meeus.{node, grid_node}
 use Rattle.meeus_terms.specs.Polynomials.{linear_top, falling}

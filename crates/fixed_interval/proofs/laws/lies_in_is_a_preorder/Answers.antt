@@ -1,6 +1,6 @@
 -- By the order of fractions, end by end.
 use Rattle.fixed_interval.proofs.EnclosureLaws.{LiesIn_refl, LiesIn_trans, above_zero, below_zero, above_not_below}
-use Rattle.fixed_interval.proofs.laws.lies_in_is_an_order.Goals as goal
+use Rattle.fixed_interval.proofs.laws.lies_in_is_a_preorder.Goals as goal
 
 pub returns : goal.returns
 returns c = record {

@@ -1,9 +1,9 @@
 use Rattle.std.proofs.Common.{ap, arith}
 use Rattle.std.proofs.lemmas.Int.{ints}
 use Rattle.fixed_interval.specs.Grid.{Range}
-use Rattle.solar_terms.specs.Ranges.{subtracted}
-use Rattle.solar_terms.proofs.RangeLemmas.{same_range}
-use Rattle.meeus_terms.proofs.ranges.minus.Goals as goal
+use Rattle.trig_series.specs.Ranges.{added}
+use Rattle.trig_series.proofs.RangeLemmas.{same_range}
+use Rattle.trig_series.proofs.Angle.plus.Goals as goal
 
 pub returns-clause-low : goal.returns-clause-low
 returns-clause-low c = let e = ap (λ (r : Range). r.lo) c.new.ensures in omega (arith, ints)
@@ -12,5 +12,5 @@ pub returns-clause-high : goal.returns-clause-high
 returns-clause-high c = let e = ap (λ (r : Range). r.hi) c.new.ensures in omega (arith, ints)
 
 pub returns-clause-value : goal.returns-clause-value
-unfolding subtracted
+unfolding added
 returns-clause-value c = same_range _ _ (returns-clause-low c) (returns-clause-high c)
