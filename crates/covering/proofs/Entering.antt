@@ -15,8 +15,8 @@ use Rattle.cell_split.proofs.LeafLemmas.{IsUnder, leaves_in_tree}
 use Rattle.covering.specs.Entries.{IsEntryIn, IsOpenIn}
 use Rattle.covering.specs.Seeks.{open_of}
 use Rattle.covering.specs.Settles.{leaves_of, refuted_word_of}
-use Rattle.covering.proofs.Greatest.{greatest_above}
-use Rattle.covering.proofs.Harvested.{greatest_in_frame, leaves_in_root}
+use Rattle.plain_search.proofs.Greatest.{greatest_above}
+use Rattle.plain_search.proofs.OpenLeaves.{greatest_in_frame, leaves_in_root}
 use Rattle.covering.proofs.Walking.{and_parts, found_has, none_at_word_0}
 
 -- no leaf has the word 0

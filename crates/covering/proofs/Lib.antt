@@ -1,5 +1,4 @@
 pub mod Entering
-pub mod Greatest
 pub mod Harvested
 pub mod Parts
 pub mod Refuting

@@ -13,7 +13,7 @@ use Rattle.cell_split.specs.Verdicts.{is_refuted}
 use Rattle.cell_split.proofs.Every.{Every-all}
 use Rattle.covering.specs.Refuted.{first_refuted, rank_of, refuted_at}
 use Rattle.covering.proofs.Walking.{and_parts, found_has, none_at_word_0}
-use Rattle.covering.proofs.Greatest.{greatest_found}
+use Rattle.plain_search.proofs.Greatest.{greatest_found}
 
 -- no leaf has the word 0
 pub none_refuted : (ls : List Leaf) → first_refuted 0 ls ≡ None

@@ -2,7 +2,7 @@
 use Rattle.std.specs.Prelude.{ℕ, ◌+◌, ◌==◌, ◌&&◌, Bool, List, Option}
 use Rattle.cell_split.specs.declared.verdict.Leaf.{Leaf}
 use Rattle.cell_split.specs.declared.verdict.Verdict.{Verdict}
-use Rattle.cell_split.specs.Entries.{first_open, is_open_above, last_word, open_word, refuted_word}
+use Rattle.cell_split.specs.Entries.{first_open, last_word, open_word, refuted_word}
 use Rattle.cell_split.specs.Verdicts.{is_open, is_refuted}
 use Rattle.covering.specs.declared.leaf_walk.Sought.{Sought}
 use Rattle.covering.specs.declared.leaf_walk.Sought.TheVariants.{Open, Refuted}
@@ -14,10 +14,6 @@ fits Refuted v = is_refuted v
 -- the leaf fits, and its last rank is this one
 abbrev pub is_sought : Sought → ℕ → Leaf → Bool
 is_sought sought rank l = fits sought l.verdict && (last_word l == rank + 1)
-
--- an open leaf of the problem, above the rank of this word
-abbrev pub is_open_of : ℕ → ℕ → Leaf → Bool
-is_open_of problem word l = (l.task.problem == problem) && is_open_above word l
 
 -- the first open leaf at the greatest open rank above the refuted rank
 abbrev pub open_of : List Leaf → Option Leaf

@@ -1,15 +1,15 @@
 // The entry of a tree, from a harvest or by a search of its own.
 ghost use Rattle.std.specs.Prelude.{◌≡◌, ◌+◌, ◌<◌, ◌≤◌, max, IfSome};
 ghost use Rattle.cell_split.specs.Entries.{decided, entry_by, entry_of, greatest_word, last_word};
-ghost use Rattle.steal_pool.specs.Harvests.{IsHarvest, word_of};
+ghost use Rattle.plain_search.specs.Harvests.{IsHarvest, word_of};
+ghost use Rattle.plain_search.specs.TopRanks.{AreTopWords, is_open_of};
 ghost use Rattle.covering.specs.Entries.{IsEntryIn};
-ghost use Rattle.covering.specs.Seeks.{is_open_of, open_of};
-ghost use Rattle.covering.specs.Settles.{leaves_of, open_word_of, refuted_word_of};
+ghost use Rattle.covering.specs.Seeks.{open_of};
+ghost use Rattle.covering.specs.Settles.{leaves_of, open_word_of};
 
 use crate::leaf_walk::{Sought, first_leaf};
-use crate::letter_walk::is_cut;
 use cell_split::{Entry, Judge, Leaf, Task, Verdict};
-use steal_pool::{Harvest, top_ranks};
+use plain_search::{Harvest, TopRanks, is_cut, top_ranks};
 
 /// The entry of problem `k`, from the harvest of a search for this judge. Where a rank above the refuted
 /// one is open, the cells at that rank are judged anew up to the first open one, since a harvest is in
@@ -21,7 +21,8 @@ pub fn entry_of<J: Judge>(judge: &J, harvest: &Harvest, k: u32) -> Entry
     ensures in_root { IsEntryIn (J.content judge.now).root result }
 {
     let refuted = harvest.refuted_rank(k);
-    entry_from(judge, k, refuted, open_rank(harvest, k, refuted))
+    let left_open = open_rank(harvest, k, refuted);
+    entry_of_ranks(judge, k, TopRanks { refuted, left_open })
 }
 
 /// The entry of problem `k`, by a search of its tree that keeps the ranks alone; an open entry's cells
@@ -31,19 +32,18 @@ pub fn entry_at<J: Judge>(judge: &J, k: u32) -> Entry
     ensures value { result ≡ entry_of (leaves_of (J.content judge.now) k) }
     ensures in_root { IsEntryIn (J.content judge.now).root result }
 {
-    let ranks = top_ranks(judge, k);
-    entry_from(judge, k, ranks.refuted, ranks.left_open)
+    entry_of_ranks(judge, k, top_ranks(judge, k))
 }
 
-// the entry of the refuted rank and the greatest open rank above it
-fn entry_from<J: Judge>(judge: &J, k: u32, refuted: Option<u32>, left_open: Option<u32>) -> Entry
+/// The entry of problem `k`, from the ranks that a search found for this judge; an open entry's cells are
+/// judged anew as in `entry_of`. It takes no memory.
+pub fn entry_of_ranks<J: Judge>(judge: &J, k: u32, ranks: TopRanks) -> Entry
     requires known { k < (J.content judge.now).problems }
-    requires refuted { word_of refuted ≡ refuted_word_of (J.content judge.now) k }
-    requires left_open { word_of left_open ≡ open_word_of (J.content judge.now) k }
+    requires ranks { AreTopWords (leaves_of (J.content judge.now) k) (word_of ranks.refuted) (word_of ranks.left_open) }
     ensures value { result ≡ entry_of (leaves_of (J.content judge.now) k) }
     ensures in_root { IsEntryIn (J.content judge.now).root result }
 {
-    entry_by(refuted, first_open(judge, k, left_open))
+    entry_by(ranks.refuted, first_open(judge, k, ranks.left_open))
 }
 
 // the first open leaf at the greatest open rank above the refuted rank

@@ -1,13 +1,14 @@
 // The letters of a tree.
-ghost use Rattle.std.specs.Prelude.{◌≡◌, ◌++◌, flat_map, nat_lt, OnOk};
+ghost use Rattle.std.specs.Prelude.{◌≡◌, ◌++◌, flat_map, OnOk};
 ghost use Rattle.std.specs.Option.{option_to_list};
 ghost use Rattle.cell_split.specs.Judges.{IsTask};
 ghost use Rattle.cell_split.specs.Tree.{child_tasks};
-ghost use Rattle.steal_pool.specs.Harvests.{word_of};
+ghost use Rattle.plain_search.specs.Harvests.{word_of};
 ghost use Rattle.covering.specs.Letters.{letter_of, letters_of};
 
-use cell_split::{Cell, Judge, Task, Verdict, children};
+use cell_split::{Judge, Task, Verdict, children};
 use no_memory::NoMemory;
+use plain_search::is_cut;
 
 /// Writes the letters of the tree below a task behind those there are. It judges each cell anew that
 /// isn't cut: the cells above the refuted rank.
@@ -53,16 +54,6 @@ fn write_letters_below<J: Judge>(
         write_letters(judge, child, refuted, letters)?;
     }
     Ok(())
-}
-
-/// Whether the cell's last rank is at most the refuted rank.
-pub fn is_cut(cell: &Cell, refuted: Option<u32>) -> bool
-    ensures { result ≡ nat_lt cell.now.last (word_of refuted) }
-{
-    match refuted {
-        Some(rank) => cell.last <= rank,
-        None => false,
-    }
 }
 
 // Writes the letter of a cell that isn't cut.

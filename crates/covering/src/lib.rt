@@ -3,7 +3,7 @@
 #![tactic(auto)]
 
 mod entry;
-mod laws;
+pub mod laws;
 mod leaf_walk;
 mod letter_walk;
 mod line;
@@ -11,9 +11,8 @@ mod runs;
 mod settled;
 mod settling;
 
-pub use entry::{entry_at, entry_by, entry_of};
-pub use laws::letters_are_those_of_the_children;
-pub use letter_walk::{is_cut, letter_of};
+pub use entry::{entry_at, entry_by, entry_of, entry_of_ranks};
+pub use letter_walk::letter_of;
 pub use line::{cover_line, cover_line_1};
 pub use settled::{Letters, Settled};
 pub use settling::settle;

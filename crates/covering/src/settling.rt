@@ -2,7 +2,7 @@
 ghost use Rattle.std.specs.Prelude.{◌≡◌, ◌<◌, ◌≤◌, IfOk};
 ghost use Rattle.cell_split.specs.Judges.{IsTask};
 ghost use Rattle.cell_split.specs.Tree.{leaves};
-ghost use Rattle.steal_pool.specs.Harvests.{IsHarvest, word_of};
+ghost use Rattle.plain_search.specs.Harvests.{IsHarvest, word_of};
 ghost use Rattle.covering.specs.Entries.{IsEntryIn};
 ghost use Rattle.covering.specs.Refuted.{first_refuted, rank_of, refuted_at};
 ghost use Rattle.covering.specs.Settles.{IsSettled};
@@ -13,9 +13,9 @@ use crate::letter_walk::write_letters;
 use crate::settled::{Letters, Settled};
 use cell_split::{Cell, Judge, Leaf, Task, Verdict};
 use no_memory::NoMemory;
+use plain_search::Harvest;
 use region::Point;
 use std::alloc::Global;
-use steal_pool::Harvest;
 
 /// Settles problem `k` from the harvest of a search for this judge: what is said holds of the whole tree,
 /// though a search leaves cells out and keeps leaves in no order. It judges anew the cells above the

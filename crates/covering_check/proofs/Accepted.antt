@@ -23,7 +23,7 @@ use Rattle.covering.specs.Letters.{is_letter}
 use Rattle.covering.specs.Lines.{IsReadAs, cell_data, line_data, members_data, point_data, tree_data}
 use Rattle.covering.specs.Refuted.{rank_of}
 use Rattle.covering.specs.Settles.{IsSettled, refuted_word_of}
-use Rattle.covering.proofs.Harvested.{greatest_in_frame}
+use Rattle.plain_search.proofs.OpenLeaves.{greatest_in_frame}
 use Rattle.covering.proofs.Spelling.{letters_are}
 use Rattle.covering_check.specs.declared.claim.Claim.{Claim}
 use Rattle.covering_check.specs.declared.claim.Claim.TheVariants.{Nowhere, UpTo}

@@ -8,7 +8,7 @@ use Rattle.cell_split.specs.declared.verdict.Leaf.{Leaf}
 use Rattle.cell_split.specs.Entries.{first_open, is_open_above, last_word, open_word}
 use Rattle.cell_split.specs.Verdicts.{is_open}
 use Rattle.covering.proofs.Entering.{none_open}
-use Rattle.covering.proofs.Greatest.{greatest_above}
+use Rattle.plain_search.proofs.Greatest.{greatest_above}
 use Rattle.covering_check.specs.Visits.{is_later, later_open, latest_open}
 
 -- the word of what was found

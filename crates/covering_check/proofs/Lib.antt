@@ -1,6 +1,5 @@
 pub mod Accepted
 pub mod CellTests
-pub mod Digits
 pub mod Latest
 pub mod Reading
 pub mod Settled

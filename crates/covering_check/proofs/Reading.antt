@@ -16,7 +16,7 @@ use Rattle.covering_check.specs.Checks.{is_spent}
 use Rattle.covering_check.specs.Left.{IsAtEnd}
 use Rattle.covering_check.specs.Marks.{Marks, ends, goes_on, marks_from, with_mark, with_marks}
 use Rattle.covering_check.specs.Visits.{fault_at}
-use Rattle.covering_check.proofs.Digits.{is_below_most}
+use Rattle.digit_text.proofs.DigitLemmas.{is_below_most}
 
 -- ---- one byte more
 

@@ -29,8 +29,8 @@ use Rattle.covering.specs.Letters.{letter_of, letters_of}
 use Rattle.covering.specs.Refuted.{first_refuted, refuted_at}
 use Rattle.covering.specs.Settles.{IsSettled, leaves_of, refuted_word_of}
 use Rattle.covering.proofs.Entering.{none_open}
-use Rattle.covering.proofs.Greatest.{greatest-append, greatest_above, greatest_found, greatest_none}
-use Rattle.covering.proofs.Harvested.{leaves_in_root}
+use Rattle.plain_search.proofs.Greatest.{greatest-append, greatest_above, greatest_found, greatest_none}
+use Rattle.plain_search.proofs.OpenLeaves.{leaves_in_root}
 use Rattle.covering.proofs.Refuting.{none_refuted}
 use Rattle.covering.proofs.Spelling.{letters_of_cut, letters-step}
 use Rattle.covering.proofs.Walking.{find_none, found_has}

@@ -1,25 +1,31 @@
 -- Cells that take their letters one after another.
-use Rattle.std.proofs.Common.{◌≡◌, ℕ, zero, suc, ◌+◌, ◌-◌, ◌<◌, ◌≤◌, Bool, true, false, cond, eqb, ltb, List, [], ◌∷◌, ◌++◌, get_or, length, take, drop, Option, Some, Result, Ok, Err, refl, sym, ap, ◌∙◌, arith}
+use Rattle.std.proofs.Common.{◌≡◌, ℕ, zero, suc, ◌+◌, ◌-◌, ◌<◌, ◌≤◌, Bool, true, false, cond, eqb, ltb, List, [], ◌∷◌, ◌++◌, get_or, length, take, drop, Option, Some, Result, Ok, Err, refl, sym, ap, subst, ◌∙◌, arith}
 use Rattle.std.specs.Prelude.{◌&&◌}
 use Rattle.std.specs.List.{flat_map}
+use Rattle.std.specs.List.Sorted.{IsPermutation}
 use Rattle.std.proofs.lemmas.Bool.{false≢true}
 use Rattle.std.proofs.lemmas.Bool.Decides.{nat_tests}
-use Rattle.std.proofs.lemmas.List.{drop_more, take-append-drop, take_all}
+use Rattle.std.proofs.lemmas.List.{drop_more, get_or-map, length-map, take-append-drop, take_all}
 use Rattle.std.proofs.lemmas.List.Concat.{flat_map-append}
+use Rattle.std.proofs.lemmas.List.Elements.{All-from_recursion}
+use Rattle.std.proofs.lemmas.List.Sorted.{IsPermutation-refl}
 use Rattle.cell_split.specs.declared.cell.Cell.{Cell}
+use Rattle.cell_split.specs.declared.cell.Children.{Children}
 use Rattle.cell_split.specs.declared.cell.Task.{Task}
 use Rattle.cell_split.specs.declared.verdict.Leaf.{Leaf}
 use Rattle.cell_split.specs.declared.verdict.Verdict.{Verdict}
 use Rattle.cell_split.specs.declared.verdict.Verdict.TheVariants.{Outside, Proved, Refuted, Split, Open}
 use Rattle.cell_split.specs.Entries.{is_open_above, last_word}
 use Rattle.cell_split.specs.Judges.{Content}
-use Rattle.cell_split.specs.Split.{children_of}
+use Rattle.cell_split.specs.Split.{children_of, quarters, split}
 use Rattle.cell_split.specs.Tree.{child_tasks, leaf_of, levels, task_of}
 use Rattle.cell_split.specs.Verdicts.{is_open, is_split}
-use Rattle.cell_split.proofs.Every.{Every-map, Every-weaker, flat_map-map, flat_map_same}
-use Rattle.cell_split.proofs.SplitLemmas.{levels_fall}
+use Rattle.cell_split.proofs.Every.{Every, Every-map, Every-weaker, flat_map-map, flat_map_same}
+use Rattle.cell_split.proofs.SplitLemmas.{levels_fall, quartered}
 use Rattle.covering.specs.Letters.{letter_of}
 use Rattle.covering.proofs.Parts.{parts_more}
+use Rattle.plain_search.specs.declared.quarters.Quarter.{Quarter}
+use Rattle.plain_search.specs.Quarters.{cells_of}
 use Rattle.covering_check.specs.declared.fault.CoverFault.{CoverFault}
 use Rattle.covering_check.specs.declared.fault.CoverFault.TheVariants.{NotShown}
 use Rattle.covering_check.specs.declared.mark.Mark.{Mark}
@@ -230,3 +236,48 @@ walked_fault c word t cells i d o found before now e same inside h k =
     flat_map-map (visited c word) (task_of t.problem) (children_of t.cell) ∙ (ap (flat_map f) (sym same) ∙ (ap (flat_map f) (sym (take-append-drop i cells)) ∙ (flat_map-append f (take i cells) (drop i cells) ∙ ap (λ (ds : List Cell). front ++ flat_map f ds) (drop_more cells i d inside)))) in
     ap (λ (ls : List Leaf). taken word ls before) whole ∙ (taken-append word front (here ++ rest) before ∙ (ap (λ (r : Result Marks CoverFault). r >>= taken word (here ++ rest)) h.takes
     ∙ (taken-append word here rest now ∙ ap (λ (r : Result Marks CoverFault). r >>= taken word rest) k)))
+
+-- ---- the quarters
+
+-- as many cells as quarters
+cells_count : (items : List Quarter) → length (cells_of items) ≡ length items
+cells_count items = length-map items (λ (q : Quarter). q.cell)
+
+-- a quarter has the ranks of the whole
+quarter_last : (t : Task) (items : List Quarter) (i : ℕ) (q : Quarter) → (split t.cell).count ≡ 4 → cells_of items ≡ children_of t.cell → i < length items → (get_or items i q).cell.last ≡ t.cell.last
+quarter_last t items i q four same inside =
+    let cell : Quarter → Cell = λ q. q.cell in
+    let P : Cell → Type 0 = λ d. d.last ≡ t.cell.last in
+    let each : Every P (quarters t.cell).cells = (refl, (refl, (refl, (refl, tt)))) in
+    let whole : cells_of items ≡ (quarters t.cell).cells = same ∙ ap (λ (s : Children). take s.count s.cells) (quartered t.cell four) in
+    sym (ap (λ (d : Cell). d.last) (get_or-map cell items i q q.cell inside))
+    ∙ subst (λ (cells : List Cell). (i : ℕ) (d : Cell) → i < length cells → P (get_or cells i d)) (sym whole) (All-from_recursion P (quarters t.cell).cells each) i q.cell (omega (arith, inside, cells_count items))
+
+-- so it is cut only where the whole is
+pub quarter_uncut : (word : ℕ) (t : Task) (items : List Quarter) (i : ℕ) (q : Quarter) → (split t.cell).count ≡ 4 → cells_of items ≡ children_of t.cell → i < length items → ltb t.cell.last word ≡ false → ltb (get_or items i q).cell.last word ≡ false
+quarter_uncut word t items i q four same inside uncut =
+    ap (λ (n : ℕ). ltb n word) (quarter_last t items i q four same inside) ∙ uncut
+
+-- what is said of the cell of a quarter, and of the quarter's place among the cells
+at_quarter : (P : Cell → Type 0) (items : List Quarter) (i : ℕ) (q : Quarter) → i < length items → P (get_or items i q).cell → P (get_or (cells_of items) i q.cell)
+at_quarter P items i q inside h =
+    let cell : Quarter → Cell = λ q. q.cell in
+    subst P (sym (get_or-map cell items i q q.cell inside)) h
+
+-- the cells of all quarters in tree order
+pub same_order : (cells cells' : List Cell) → cells' ≡ cells → IsPermutation cells cells'
+same_order cells cells' same = subst (λ (ds : List Cell). IsPermutation cells ds) (sym same) (IsPermutation-refl cells)
+
+pub quarter_more : (c : Content) (word : ℕ) (t : Task) (items : List Quarter) (i : ℕ) (q : Quarter) (o found next : Option Leaf) (before now after : Marks) → i < length items → AreWalked c word t (cells_of items) i o found before now → Walks word (visited c word (task_of t.problem (get_or items i q).cell)) found now after (Ok next) → AreWalked c word t (cells_of items) (i + 1) o next before after
+quarter_more c word t items i q o found next before now after inside h k =
+    walked_more c word t (cells_of items) i q.cell o found next before now after (omega (arith, inside, cells_count items)) h
+    (at_quarter (λ d. Walks word (visited c word (task_of t.problem d)) found now after (Ok next)) items i q inside k)
+
+pub quarter_fault : (c : Content) (word : ℕ) (t : Task) (items : List Quarter) (i : ℕ) (q : Quarter) (o found : Option Leaf) (before now : Marks) (e : CoverFault) → cells_of items ≡ children_of t.cell → i < length items → AreWalked c word t (cells_of items) i o found before now → taken word (visited c word (task_of t.problem (get_or items i q).cell)) now ≡ Err e → taken word (flat_map (visited c word) (child_tasks t)) before ≡ Err e
+quarter_fault c word t items i q o found before now e same inside h k =
+    walked_fault c word t (cells_of items) i q.cell o found before now e same (omega (arith, inside, cells_count items)) h
+    (at_quarter (λ d. taken word (visited c word (task_of t.problem d)) now ≡ Err e) items i q inside k)
+
+pub quarters_all : (c : Content) (word : ℕ) (t : Task) (items : List Quarter) (i : ℕ) (o found : Option Leaf) (before now : Marks) → cells_of items ≡ children_of t.cell → length items ≤ i → AreWalked c word t (cells_of items) i o found before now → Walks word (flat_map (visited c word) (child_tasks t)) o before now (Ok found)
+quarters_all c word t items i o found before now same end h =
+    walked_all c word t (cells_of items) i o found before now same (omega (arith, end, cells_count items)) h

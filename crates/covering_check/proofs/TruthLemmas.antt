@@ -26,7 +26,7 @@ use Rattle.cell_split.proofs.SplitLemmas.{children_cover, levels_fall}
 use Rattle.serde_json.specs.Data.{Data}
 use Rattle.covering.specs.Letters.{letter_of}
 use Rattle.covering.proofs.Entering.{none_open}
-use Rattle.covering.proofs.Greatest.{greatest-append, greatest_above, greatest_none}
+use Rattle.plain_search.proofs.Greatest.{greatest-append, greatest_above, greatest_none}
 use Rattle.covering_check.specs.declared.claim.Claim.{Claim}
 use Rattle.covering_check.specs.declared.claim.Claim.TheVariants.{Nowhere, UpTo}
 use Rattle.covering_check.specs.declared.claim.Numbers.{Numbers}

@@ -14,7 +14,9 @@ use Rattle.std.proofs.lemmas.Slice.Eq.{bytes_eq-Decides}
 use Rattle.region.proofs.Truth.{and_left, and_right, and_true}
 use Rattle.covering.specs.Letters.{is_letter}
 use Rattle.covering_check.specs.Marks.{Marks, marks_from}
-use Rattle.covering_check.specs.Numerals.{digits_in, whole_in, with_sign}
+use Rattle.covering_check.specs.Numerals.{whole_in}
+use Rattle.digit_text.specs.Digits.{digits_in}
+use Rattle.digit_text.specs.Sign.{with_sign}
 use Rattle.covering_check.proofs.Reading.{marks_end, marks_letter}
 
 -- ---- decimals
@@ -45,7 +47,7 @@ written_more m ds h w = record {
 written : (n : ℕ) → n < 10 ^ 64 → IsWritten n (decimal n)
 written n h = decimal_by_steps_wide IsWritten (λ m l. written_digit m l) (λ m ds l k. written_more m ds l k) n h
 
-digits_again : (n : ℕ) → n < 10 ^ 22 → digits_in (decimal n) ≡ Some n
+digits_again : (n : ℕ) → n < 10 ^ 22 → digits_in 22 (decimal n) ≡ Some n
 unfolding digits_in
 digits_again n h =
     let w = written n (omega arith) in
@@ -61,7 +63,7 @@ not_minus n h = elim (written n h).first [
 ]
 
 -- a number of at most 22 digits behind its sign
-read_behind : (negative : Bool) (text : List ℕ) (n : ℕ) → n < 10 ^ 22 → (n ≡ 0 → text ≡ codes "0") → (n ≡ 0 → with_sign negative 0 ≡ pos 0) → cond (eqb (get_or (decimal n) 0 0) 48) (cond (bytes_eq text (codes "0")) (Some (pos 0)) None) (option_map (with_sign negative) (digits_in (decimal n))) ≡ Some (with_sign negative n)
+read_behind : (negative : Bool) (text : List ℕ) (n : ℕ) → n < 10 ^ 22 → (n ≡ 0 → text ≡ codes "0") → (n ≡ 0 → with_sign negative 0 ≡ pos 0) → cond (eqb (get_or (decimal n) 0 0) 48) (cond (bytes_eq text (codes "0")) (Some (pos 0)) None) (option_map (with_sign negative) (digits_in 22 (decimal n))) ≡ Some (with_sign negative n)
 read_behind negative text n h zero' sign = elim (written n (omega arith)).first [
   | inl none ↦
       let first : eqb (get_or (decimal n) 0 0) 48 ≡ true = ap (λ (ds : List ℕ). eqb (get_or ds 0 0) 48) none.1 in

@@ -1,6 +1,6 @@
 // What a line says to be refuted.
 ghost use Rattle.std.specs.Prelude.{◌≡◌};
-ghost use Rattle.steal_pool.specs.Harvests.{word_of};
+ghost use Rattle.plain_search.specs.Harvests.{word_of};
 ghost use Rattle.covering_check.specs.Members.{word_of_claim};
 
 use cell_split::Cell;

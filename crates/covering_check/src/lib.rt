@@ -5,7 +5,7 @@
 mod check;
 mod claim;
 mod fault;
-mod laws;
+pub mod laws;
 mod letters;
 mod mark;
 mod members;
@@ -14,4 +14,3 @@ mod walk;
 
 pub use check::check_line;
 pub use fault::CoverFault;
-pub use laws::{accepted_lines_are_true, settled_trees_are_shown, tree_lines_are_accepted};

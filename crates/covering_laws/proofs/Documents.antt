@@ -28,7 +28,7 @@ use Rattle.covering.specs.Lines.{IsReadAs, cell_data, line_data, members_data, p
 use Rattle.covering.specs.Refuted.{rank_of}
 use Rattle.covering.specs.Runs.{run_text, runs_in, runs_text}
 use Rattle.covering.specs.Settles.{IsSettled, refuted_word_of}
-use Rattle.covering.proofs.Harvested.{greatest_in_frame}
+use Rattle.plain_search.proofs.OpenLeaves.{greatest_in_frame}
 use Rattle.covering.proofs.Running.{letters_utf8}
 use Rattle.covering.proofs.Spelling.{letters_are}
 use Rattle.covering_check.specs.Cells.{is_cell_of}

@@ -14,7 +14,7 @@ use Rattle.cell_split.proofs.Every.{Every}
 use Rattle.covering.specs.Letters.{is_letter}
 use Rattle.covering.specs.Runs.{run_text, runs_in, with_run}
 use Rattle.covering_check.specs.Marks.{Marks, goes_on, marks_from, with_marks}
-use Rattle.covering_check.proofs.Digits.{is_below_most}
+use Rattle.digit_text.proofs.DigitLemmas.{is_below_most}
 use Rattle.covering_check.proofs.Reading.{marks_digit, marks_end, marks_letter}
 
 -- ---- counts

@@ -9,7 +9,7 @@ use Rattle.covering.specs.declared.settled.Settled.{Settled}
 use Rattle.covering.specs.Letters.{letters_of}
 use Rattle.covering.specs.Refuted.{first_refuted, rank_of}
 use Rattle.covering.specs.Settles.{leaves_of, refuted_word_of}
-use Rattle.covering.proofs.Harvested.{greatest_in_frame}
+use Rattle.plain_search.proofs.OpenLeaves.{greatest_in_frame}
 use Rattle.covering.proofs.Refuting.{refuted_shown}
 use Rattle.covering.proofs.Spelling.{letters_are}
 use Rattle.covering_laws.specs.Acceptance.{TreesAreSettled}

@@ -22,7 +22,7 @@ use Rattle.cell_split.proofs.TreeLemmas.{leaves_of_leaf, leaves_of_split}
 use Rattle.covering.specs.Letters.{is_letter, letter_of, letters_of}
 use Rattle.covering.specs.Runs.{runs_in, with_run}
 use Rattle.covering.specs.Settles.{refuted_word_of}
-use Rattle.covering.proofs.Greatest.{greatest-append}
+use Rattle.plain_search.proofs.Greatest.{greatest-append}
 use Rattle.covering.proofs.Spelling.{letters_of_cut, letters_of_leaf, letters_of_split}
 use Rattle.covering_laws.proofs.Runs.{IsRun}
 

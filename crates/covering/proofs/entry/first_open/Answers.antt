@@ -1,6 +1,6 @@
 use Rattle.std.proofs.Common.{sym, ap, ◌∙◌}
 use Rattle.cell_split.specs.Entries.{first_open}
-use Rattle.steal_pool.specs.Harvests.{word_of}
+use Rattle.plain_search.specs.Harvests.{word_of}
 use Rattle.covering.specs.Settles.{leaves_of}
 use Rattle.covering.proofs.Entering.{none_open}
 use Rattle.covering.proofs.entry.first_open.Goals as goal

@@ -1,7 +1,7 @@
 use Rattle.std.proofs.Common.{◌≡◌, true, sym, ap, ◌∙◌, arith}
-use Rattle.steal_pool.specs.Harvests.{word_of}
-use Rattle.covering.specs.Seeks.{is_open_of}
-use Rattle.covering.proofs.Greatest.{greatest_next}
+use Rattle.plain_search.specs.Harvests.{word_of}
+use Rattle.plain_search.specs.TopRanks.{is_open_of}
+use Rattle.plain_search.proofs.Greatest.{greatest_next}
 use Rattle.covering.proofs.entry.open_rank.Goals as goal
 use Rattle.covering.proofs.entry.open_rank.Goals.{then-is_open_of, else-is_open_of}
 

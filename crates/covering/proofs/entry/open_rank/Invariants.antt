@@ -1,7 +1,7 @@
 use Rattle.std.proofs.Common.{◌≡◌, length, take}
 use Rattle.cell_split.specs.Entries.{greatest_word}
-use Rattle.steal_pool.specs.Harvests.{word_of}
-use Rattle.covering.specs.Seeks.{is_open_of}
+use Rattle.plain_search.specs.Harvests.{word_of}
+use Rattle.plain_search.specs.TopRanks.{is_open_of}
 use Rattle.covering.proofs.entry.open_rank.Given as goal
 
 abbrev pub invariant-loop-i : goal.invariant-loop-i

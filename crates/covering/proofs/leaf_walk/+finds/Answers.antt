@@ -1,5 +1,5 @@
 use Rattle.std.proofs.Common.{rules, sym, ◌∙◌}
-use Rattle.steal_pool.proofs.TreeFacts.{child_at}
+use Rattle.plain_search.proofs.TreeFacts.{child_at}
 use Rattle.covering.proofs.Walking.{beyond, found_below, found_here, none_below, none_below_more, none_beyond, not_found_here}
 use Rattle.covering.proofs.leaf_walk.+finds.Goals as goal
 

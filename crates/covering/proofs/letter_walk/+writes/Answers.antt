@@ -1,7 +1,7 @@
 use Rattle.std.proofs.Common.{rules, ◌≡◌, false, true, ltb, sym, ◌∙◌}
 use Rattle.cell_split.specs.Verdicts.{is_split}
-use Rattle.steal_pool.specs.Harvests.{word_of}
-use Rattle.steal_pool.proofs.TreeFacts.{child_at}
+use Rattle.plain_search.specs.Harvests.{word_of}
+use Rattle.plain_search.proofs.TreeFacts.{child_at}
 use Rattle.covering.proofs.Spelling.{letters_of_cut, written_all, written_leaf, written_more, written_split}
 use Rattle.covering.proofs.letter_walk.+writes.Goals as goal
 

@@ -1,7 +1,7 @@
 use Rattle.std.proofs.Common.{◌≡◌, ◌-◌, ◌*◌}
 use Rattle.cell_split.specs.Split.{children_of}
 use Rattle.cell_split.specs.Tree.{levels}
-use Rattle.steal_pool.specs.Harvests.{word_of}
+use Rattle.plain_search.specs.Harvests.{word_of}
 use Rattle.covering.proofs.Spelling.{AreWritten}
 use Rattle.covering.proofs.letter_walk.+writes.Given as goal
 

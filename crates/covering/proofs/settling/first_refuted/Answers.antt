@@ -1,5 +1,5 @@
 use Rattle.std.proofs.Common.{sym, ap, ◌∙◌}
-use Rattle.steal_pool.specs.Harvests.{word_of}
+use Rattle.plain_search.specs.Harvests.{word_of}
 use Rattle.cell_split.specs.Tree.{leaves}
 use Rattle.covering.specs.Refuted.{first_refuted}
 use Rattle.covering.proofs.Refuting.{none_refuted}

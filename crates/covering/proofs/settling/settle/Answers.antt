@@ -3,7 +3,7 @@ use Rattle.std.specs.List.{list_all}
 use Rattle.std.specs.Option.{is_none}
 use Rattle.std.proofs.lemmas.Int.{ints}
 use Rattle.cell_split.specs.Tree.{root_task}
-use Rattle.steal_pool.specs.Harvests.{word_of}
+use Rattle.plain_search.specs.Harvests.{word_of}
 use Rattle.covering.specs.Letters.{is_letter, letters_of}
 use Rattle.covering.specs.Refuted.{first_refuted, rank_of}
 use Rattle.covering.specs.Settles.{leaves_of}

@@ -1,0 +1,4 @@
+pub mod Harvests
+pub mod Collected
+pub mod Quarters
+pub mod TopRanks
