@@ -1,6 +1,7 @@
-pub mod TreeFacts
-pub mod Reordered
-pub mod Collecting
-pub mod Harvesting
-pub mod PartStarts
-pub mod Rising
+pub mod Places
+pub mod Joining
+pub mod Dealing
+pub mod Running
+pub mod Absorbing
+pub mod Parting
+pub mod Finding

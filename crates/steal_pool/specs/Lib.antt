@@ -1,6 +1,3 @@
-pub mod Harvests
-pub mod Collected
-pub mod Quarters
-pub mod Samples
-pub mod SampleLaws
-pub mod TopRanks
+pub mod Crews
+pub mod Endings
+pub mod Found

@@ -2,7 +2,7 @@
 ghost use Rattle.std.specs.Prelude.{◌≡◌};
 
 use cell_split::{Cell, Judge, Judged, Task, Verdict};
-use std::sync::atomic::{AtomicU64, Ordering};
+use std::cell;
 
 /// Called by each worker before it judges its task number `turn`, from 0 on. No clause rests on it.
 pub trait Gate {
@@ -23,7 +23,7 @@ pub(crate) struct Gated<'a, J: Judge, G: Gate> {
     judge: &'a J,
     gate: &'a G,
     worker: u32,
-    turn: AtomicU64,
+    turn: cell::Cell<u64>,
 }
 
 impl<'a, J: Judge, G: Gate> Gated<'a, J, G> {
@@ -34,13 +34,14 @@ impl<'a, J: Judge, G: Gate> Gated<'a, J, G> {
             judge,
             gate,
             worker,
-            turn: AtomicU64::new(0),
+            turn: cell::Cell::new(0),
         }
     }
 
     // calls the gate before the next task
     fn pass(&self) {
-        let turn = self.turn.fetch_add(1, Ordering::SeqCst);
+        let turn = self.turn.get();
+        self.turn.set(turn.wrapping_add(1));
         self.gate.before(self.worker, turn);
     }
 }

@@ -1,16 +1,14 @@
-// The search of a judge's trees: for each problem the greatest rank refuted, and the leaves above it.
-// Contract: a `Harvest` holds each leaf above the refuted rank of its problem exactly once.
+// The search of a judge's trees by several workers at the same time, each with a deque of its own, who steal from each other.
+// Contract: it finds what the search on one thread finds.
 #![tactic(auto)]
 
+mod calls;
+mod crew;
+mod deques;
+mod ending;
 mod gate;
-mod harvest;
-mod parts;
-mod plain;
-mod quarters;
-mod ranks_alone;
+mod joined;
+mod stealing;
 
+pub use calls::{search, search_ranks};
 pub use gate::{Gate, OpenGate};
-pub use harvest::{Harvest, Leaves, Ranks};
-pub use parts::search;
-pub use plain::search_plain;
-pub use ranks_alone::{TopRanks, top_ranks};

@@ -1,0 +1,10 @@
+use Rattle.search_worker.specs.Workers.{IsSameWorker, OwesAsBefore}
+use Rattle.search_worker.proofs.worker.Worker.close.Given as goal
+
+abbrev pub invariant-loop : goal.invariant-loop
+invariant-loop g l = record {
+  next : (goal.iterator-loop g).can_next l.iterator';
+  finite : (goal.iterator-loop g).is_finite l.iterator';
+  same : IsSameWorker l.bound l.initial.self l.self;
+  owes : OwesAsBefore g.C.Case.case (g.S.Store.keeps g.C.Case.case.problems) l.initial.self l.self;
+}
