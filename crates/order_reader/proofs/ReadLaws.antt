@@ -7,8 +7,7 @@ use Rattle.exact_json.specs.Tree.{Tree}
 use Rattle.exact_json.specs.declared.fault.JsonFault.{JsonFault}
 use Rattle.exact_json.specs.declared.fault.JsonFault.TheVariants as json
 use Rattle.order_reader.specs.Gives.{Gives}
-use Rattle.order_reader.specs.Reads.{EveryTextIsReadOrRefused, LineReadingsAgree, OrderReadingsAgree, ReadsBy, answer_by, json_refusal}
-use Rattle.order_reader.specs.LineReading.{line_order_in}
+use Rattle.order_reader.specs.Reads.{EveryTextIsReadOrRefused, OrderReadingsAgree, ReadsBy, answer_by, json_refusal}
 use Rattle.order_reader.specs.Reading.{order_in}
 use Rattle.order_reader.specs.declared.fault.OrderFault.{OrderFault}
 use Rattle.order_reader.specs.declared.fault.OrderFault.TheVariants.{NoMemory}
@@ -40,9 +39,6 @@ module _ {A : Type 0} (reading : Tree → Result A OrderFault) (bytes : List ℕ
 
 pub order_readings_agree : OrderReadingsAgree
 order_readings_agree bytes x y = answers_agree order_in bytes x y
-
-pub line_readings_agree : LineReadingsAgree
-line_readings_agree bytes x y = answers_agree line_order_in bytes x y
 
 pub every_text_is_read_or_refused : EveryTextIsReadOrRefused
 every_text_is_read_or_refused bytes = some_answer order_in bytes

@@ -1,6 +1,6 @@
 -- What is read as an order keeps the rule of every order.
 use Rattle.std.proofs.Common.{◌≡◌, refl, sym, subst, ℕ, ◌≤◌, ℤ, pos, neg_ℤ, ◌+ℤ◌, ◌≤ℤ◌, Bool, true, false, cond, ◌&&◌, List, [], Option, Some, None, option_map, option_and_then, Result, Ok, Err, arith}
-use Rattle.std.specs.Prelude.{int_le, nat_le, unsigned_abs}
+use Rattle.std.specs.Prelude.{int_le, unsigned_abs}
 use Rattle.std.specs.Option.{ok_or}
 use Rattle.std.proofs.lemmas.Int.{ints}
 use Rattle.std.proofs.lemmas.Option.{cond_some}
@@ -11,31 +11,30 @@ use Rattle.exact_json.specs.declared.fault.JsonFault.{JsonFault}
 use Rattle.method_table.specs.declared.method.Asr.{Asr}
 use Rattle.method_table.specs.declared.method.Method.{Method}
 use Rattle.night_rule.specs.declared.rule.NightRule.{NightRule}
-use Rattle.order_reader.proofs.DateTexts.{day_bounds}
 use Rattle.order_reader.proofs.GivenSteps.{gave}
-use Rattle.order_reader.proofs.SignedLemmas.{between, le_from_test}
-use Rattle.order_reader.specs.Asked.{Asked}
-use Rattle.order_reader.specs.Dates.{civil_day, day_of, unless_far, ymd_in}
-use Rattle.order_reader.specs.Each.{each_of}
-use Rattle.order_reader.specs.Geometry.{geometry_of, line_district_of}
+use Rattle.order_reader.specs.Dates.{day_of, unless_far, ymd_in}
+use Rattle.geo_json.specs.Geometry.{geometry_of}
 use Rattle.order_reader.specs.Gives.{◌>>=◌}
-use Rattle.order_reader.specs.Late.{may_be_late}
-use Rattle.order_reader.specs.LineReading.{line_district, line_extras_of, line_order_in, line_order_of, since, version_in}
-use Rattle.order_reader.specs.Lookup.{list_in, number_in, object_in, text_in}
+use Rattle.geo_json.specs.Lookup.{list_in, number_in, object_in, text_in}
 use Rattle.order_reader.specs.Members.{asr_in, days_in, days_of, from_in, height_in, late_in, late_of, method_in, offsets_in, pair_in, range_of, sun_in, whole_within, zone_by, zone_in}
-use Rattle.order_reader.specs.Offsets.{is_day, is_zone, last_day, offsets_of}
 use Rattle.order_reader.specs.Reading as reading
-use Rattle.order_reader.specs.Reading.{Basis, Extras, asked_by, basis_of, district_in, district_of, extras_of, height_of, needed, night_of, optional, or_absent, order_in, order_of, rule_in, unless_refused}
+use Rattle.order_reader.specs.Reading.{Basis, Extras, asked_by, basis_of, district_in, district_of, extras_of, height_of, needed, night_of, optional, or_absent, order_in, order_of, unless_refused}
 use Rattle.order_reader.specs.Reads.{OrdersKeepTheRule, answer_by}
-use Rattle.order_reader.specs.Rule.{IsOrder}
 use Rattle.order_reader.specs.declared.date.Ymd.{Ymd}
 use Rattle.order_reader.specs.declared.fault.Member.TheVariants as members
 use Rattle.order_reader.specs.declared.fault.OrderFault.{OrderFault}
 use Rattle.order_reader.specs.declared.fault.OrderFault.TheVariants.{Kind, Range, Geometry}
+use Rattle.order_rule.proofs.SignedLemmas.{between, le_from_test}
+use Rattle.order_rule.specs.Asked.{Asked}
+use Rattle.region.specs.Each.{each_of}
+use Rattle.order_rule.specs.Late.{may_be_late}
+use Rattle.order_rule.specs.Offsets.{first_day, is_day, is_zone, last_day, offsets_of}
+use Rattle.order_rule.specs.Rule.{IsOrder}
 use Rattle.region.specs.Faults.{first_fault}
 use Rattle.region.specs.Rings.{Polygon}
 use Rattle.region.proofs.Truth.{map_some}
 use Rattle.region.specs.declared.faults.RegionFault.{RegionFault}
+use Rattle.year_table.specs.Dates.{civil_day}
 use Rattle.year_table.specs.Rules.{is_rule}
 use Rattle.sun_choice.specs.declared.choice.SunChoice.{SunChoice}
 use Rattle.sun_choice.specs.declared.choice.SunChoice.TheVariants.{Usno}
@@ -57,10 +56,6 @@ optional_ok absent read P none some (Ok None) x e = (let same : absent ≡ x = c
 optional_ok absent read P none some (Ok (Some t)) x e = some t x e
 optional_ok absent read P none some (Err fault) x e = absurd cc
 
-since_ok : {A : Type 0} (absent : A) (read : Tree → Result A OrderFault) (P : A → Type 0) → P absent → ((t : Tree) (x : A) → read t ≡ Ok x → P x) → (r : Result Tree OrderFault) (stands : Bool) (x : A) → cond stands (r >>= read) (Ok absent) ≡ Ok x → P x
-since_ok absent read P none some r true x e = (let t = gave r read x e in some t.value x t.rest)
-since_ok absent read P none some r false x e = (let same : absent ≡ x = cc in subst P same none)
-
 -- The members.
 
 whole_kept : (low high z : ℤ) (d : Decimal) → whole_within low high d ≡ Some z → (low ≤ℤ z) × (z ≤ℤ high)
@@ -73,7 +68,7 @@ day_kept : (o : Option Ymd) (day : ℤ) → (ok_or o (Kind members.From) >>= λ 
 unfolding day_of
 day_kept None day e = absurd cc
 day_kept (Some ymd) day e =
-    let found = and_then_some unless_far (civil_day ymd) day (or_ok (day_of ymd) (Range members.From) day e) in
+    let found = and_then_some unless_far (civil_day ymd.year ymd.month ymd.day) day (or_ok (day_of ymd) (Range members.From) day e) in
     let inside = cond_some (is_day found.0) found.0 day found.2 in
     subst (λ d. is_day d ≡ true) inside.1 inside.0
 
@@ -132,7 +127,7 @@ height_by (Some d) height e =
     let range = whole_kept (pos 0) (pos 9000) found.0 d found.1 in
     omega (arith, ints, found.2, range.0, range.1)
 
-height_kept : (t : Tree) (height : ℕ) → height_in t ≡ Ok height → height ≤ 9000
+pub height_kept : (t : Tree) (height : ℕ) → height_in t ≡ Ok height → height ≤ 9000
 unfolding height_in
 height_kept t height e = height_by (number_in t) height e
 
@@ -143,7 +138,7 @@ late_by method (Some pairs) late e =
     let inside = cond_some (may_be_late method found.0) found.0 late found.2 in
     subst (λ l. may_be_late method l ≡ true) inside.1 inside.0
 
-late_kept : (method : Method) (t : Tree) (late : List (ℤ × ℤ)) → late_in method t ≡ Ok late → may_be_late method late ≡ true
+pub late_kept : (method : Method) (t : Tree) (late : List (ℤ × ℤ)) → late_in method t ≡ Ok late → may_be_late method late ≡ true
 unfolding late_in
 late_kept method t late e = late_by method (option_and_then (each_of pair_in) (list_in t)) late e
 
@@ -151,7 +146,7 @@ pub unless_refused_ok : (found polygons : List Polygon) (fault : Option RegionFa
 unless_refused_ok found polygons None is e = (let same : found ≡ polygons = cc in subst (λ p. first_fault p ≡ None) same is)
 unless_refused_ok found polygons (Some fault) is e = absurd cc
 
-sound_by : {A : Type 0} (o : Option A) (fault : OrderFault) (read : A → Option (List Polygon)) (polygons : List Polygon) → (ok_or o fault >>= λ x. (ok_or (read x) Geometry >>= district_of)) ≡ Ok polygons → first_fault polygons ≡ None
+pub sound_by : {A : Type 0} (o : Option A) (fault : OrderFault) (read : A → Option (List Polygon)) (polygons : List Polygon) → (ok_or o fault >>= λ x. (ok_or (read x) Geometry >>= district_of)) ≡ Ok polygons → first_fault polygons ≡ None
 sound_by o fault read polygons e =
     let x = gave (ok_or o fault) (λ y. ok_or (read y) Geometry >>= district_of) polygons e in
     let found = gave (ok_or (read x.value) Geometry) district_of polygons x.rest in
@@ -160,10 +155,6 @@ sound_by o fault read polygons e =
 district_kept : (t : Tree) (polygons : List Polygon) → district_in t ≡ Ok polygons → first_fault polygons ≡ None
 unfolding district_in
 district_kept t polygons e = sound_by (object_in t) (Kind members.District) geometry_of polygons e
-
-line_district_kept : (t : Tree) (polygons : List Polygon) → line_district t ≡ Ok polygons → first_fault polygons ≡ None
-unfolding line_district
-line_district_kept t polygons e = sound_by (list_in t) (Kind members.District) line_district_of polygons e
 
 -- Orders.
 
@@ -229,7 +220,7 @@ module _ (method : Method) (heights : Result ℕ OrderFault) (lates : Result (Li
   abbrev with_height : ℕ → Result Extras OrderFault
   with_height h = lates >>= with_late h
 
-  extras_by : ((h : ℕ) → heights ≡ Ok h → h ≤ 9000) → ((l : List (ℤ × ℤ)) → lates ≡ Ok l → may_be_late method l ≡ true) → (x : Extras) → (heights >>= with_height) ≡ Ok x → KeepsExtras method x
+  pub extras_by : ((h : ℕ) → heights ≡ Ok h → h ≤ 9000) → ((l : List (ℤ × ℤ)) → lates ≡ Ok l → may_be_late method l ≡ true) → (x : Extras) → (heights >>= with_height) ≡ Ok x → KeepsExtras method x
   extras_by low late x e =
       let h = gave heights with_height x e in
       let l = gave lates (with_late h.value) x h.rest in
@@ -246,18 +237,10 @@ extras_kept method es x e =
     (λ l. optional_ok [] (late_in method) (λ k. may_be_late method k ≡ true) refl (late_kept method) (optional members.LateIsha es) l)
     x e
 
-line_extras_kept : (version : ℕ) (method : Method) (es : List Entry) (x : Extras) → line_extras_of version method es ≡ Ok x → KeepsExtras method x
-unfolding line_extras_of
-line_extras_kept version method es x e =
-    extras_by method (since 2 members.Height 0 height_in version es) (since 2 members.LateIsha [] (late_in method) version es) (since 3 members.Sun Usno sun_in version es) (since 4 members.Night None rule_in version es)
-    (λ h. since_ok 0 height_in (λ k. k ≤ 9000) (omega arith) height_kept (needed members.Height es) (nat_le 2 version) h)
-    (λ l. since_ok [] (late_in method) (λ k. may_be_late method k ≡ true) refl (late_kept method) (needed members.LateIsha es) (nat_le 2 version) l)
-    x e
-
 pub parts_kept : (b : Basis) (x : Extras) (polygons : List Polygon) (o : Asked) → KeepsBasis b → KeepsExtras b.method x → first_fault polygons ≡ None → asked_by b x polygons ≡ o → IsOrder o
 parts_kept b x polygons o basis extras sound same =
     subst IsOrder same (record {
-      not_early = (day_bounds b.from_day basis.day).0;
+      not_early = (between first_day last_day b.from_day basis.day).0;
       not_late = basis.days.late;
       some_days = basis.days.some;
       few_days = basis.days.few;
@@ -277,32 +260,14 @@ members_kept es o e =
     let t = gave (needed members.District es) district_in p.value p.first in
     parts_kept b.value x.value p.value o (basis_kept es b.value b.first) (extras_kept b.value.method es x.value x.first) (district_kept t.value p.value t.rest) cc
 
-line_members_kept : (es : List Entry) (o : Asked) → line_order_of es ≡ Ok o → IsOrder o
-unfolding line_order_of
-line_members_kept es o e =
-    let v = gave (needed members.Version es >>= version_in) (λ v. basis_of es >>= λ b. line_extras_of v b.method es >>= λ x. (needed members.District es >>= line_district) >>= λ p. Ok (asked_by b x p)) o e in
-    let b = gave (basis_of es) (λ b. line_extras_of v.value b.method es >>= λ x. (needed members.District es >>= line_district) >>= λ p. Ok (asked_by b x p)) o v.rest in
-    let x = gave (line_extras_of v.value b.value.method es) (λ x. (needed members.District es >>= line_district) >>= λ p. Ok (asked_by b.value x p)) o b.rest in
-    let p = gave (needed members.District es >>= line_district) (λ p. Ok (asked_by b.value x.value p)) o x.rest in
-    let t = gave (needed members.District es) line_district p.value p.first in
-    parts_kept b.value x.value p.value o (basis_kept es b.value b.first) (line_extras_kept v.value b.value.method es x.value x.first) (line_district_kept t.value p.value t.rest) cc
-
 -- what is read as an order is one
 pub order_kept : (t : Tree) (o : Asked) → order_in t ≡ Ok o → IsOrder o
 unfolding order_in
 order_kept t o e = (let es = gave (ok_or (object_in t) (Kind members.Order)) order_of o e in members_kept es.value o es.rest)
 
--- as a canonical line too
-pub line_kept : (t : Tree) (o : Asked) → line_order_in t ≡ Ok o → IsOrder o
-unfolding line_order_in
-line_kept t o e = (let es = gave (ok_or (object_in t) (Kind members.Order)) line_order_of o e in line_members_kept es.value o es.rest)
-
-kept_by : (reading : Tree → Result Asked OrderFault) → ((t : Tree) (o : Asked) → reading t ≡ Ok o → IsOrder o) → (r : Result Tree JsonFault) (o : Asked) → Ok o ≡ answer_by reading r → IsOrder o
+pub kept_by : (reading : Tree → Result Asked OrderFault) → ((t : Tree) (o : Asked) → reading t ≡ Ok o → IsOrder o) → (r : Result Tree JsonFault) (o : Asked) → Ok o ≡ answer_by reading r → IsOrder o
 kept_by reading kept (Ok t) o e = kept t o (sym e)
 kept_by reading kept (Err fault) o e = absurd cc
 
 pub orders_keep_the_rule : OrdersKeepTheRule
-orders_keep_the_rule = record {
-  of_an_order = λ bytes o read. kept_by order_in order_kept read.0 o read.2;
-  of_a_line = λ bytes o read. kept_by line_order_in line_kept read.0 o read.2;
-}
+orders_keep_the_rule bytes o read = kept_by order_in order_kept read.0 o read.2

@@ -1,15 +1,8 @@
 -- The dates of an order, as texts.
-use Rattle.std.specs.Prelude.{ℕ, ◌+◌, ◌-◌, ◌*◌, ◌==◌, nat_le, ℤ, pos, Bool, ◌&&◌, if◌then◌else◌, List, length, slice_index, Option, Some, None, option_and_then}
-use Rattle.std.specs.Char.{is_ascii_digit}
-use Rattle.jiff_core.specs.Calendar.{days_from_civil, days_in_month}
-use Rattle.order_reader.specs.Offsets.{is_day}
+use Rattle.std.specs.Prelude.{ℕ, ◌+◌, ◌*◌, ◌==◌, ℤ, Bool, ◌&&◌, if◌then◌else◌, List, length, slice_index, Option, Some, None, option_and_then}
 use Rattle.order_reader.specs.declared.date.Ymd.{Ymd}
-
--- the number that the two digits at a place write
-abbrev pub two_digits_at : List ℕ → ℕ → Option ℕ
-two_digits_at s i =
-    if is_ascii_digit (slice_index s i) && is_ascii_digit (slice_index s (i + 1))
-    then Some ((slice_index s i - 48) * 10 + (slice_index s (i + 1) - 48)) else None
+use Rattle.year_table.specs.Dates.{civil_day, two_digits_at}
+use Rattle.order_rule.specs.Offsets.{is_day}
 
 abbrev pub is_dash_at : List ℕ → ℕ → Bool
 is_dash_at s i = slice_index s i == 0x2D
@@ -24,22 +17,9 @@ ymd_in s =
     if (length s == 10) && (is_dash_at s 4 && is_dash_at s 7)
     then ymd_of (two_digits_at s 0) (two_digits_at s 2) (two_digits_at s 5) (two_digits_at s 8) else None
 
--- the calendar has the date, and its year has four digits
-abbrev pub is_date : Ymd → Bool
-is_date d =
-    nat_le d.year 9999
-    && ((nat_le 1 d.month && nat_le d.month 12) && (nat_le 1 d.day && nat_le d.day (days_in_month (pos d.year) d.month)))
-
--- the day since 1970-01-01
-abbrev pub day_number : Ymd → ℤ
-day_number d = days_from_civil (pos d.year) d.month d.day
-
-abbrev pub civil_day : Ymd → Option ℤ
-civil_day d = if is_date d then Some (day_number d) else None
-
 abbrev pub unless_far : ℤ → Option ℤ
 unless_far day = if is_day day then Some day else None
 
--- the same, if it is a day that an order may name
+-- the day since 1970-01-01 of a date, if it is a day that an order may name
 unfoldable pub day_of : Ymd → Option ℤ
-day_of d = option_and_then unless_far (civil_day d)
+day_of d = option_and_then unless_far (civil_day d.year d.month d.day)

@@ -11,11 +11,11 @@ use Rattle.night_rule.specs.Rule.{night_rule_of}
 use Rattle.night_rule.specs.declared.rule.NightRule.{NightRule}
 use Rattle.order_reader.specs.Dates.{day_of, ymd_in}
 use Rattle.order_reader.specs.declared.date.Ymd.{Ymd}
-use Rattle.order_reader.specs.Each.{each_of}
 use Rattle.order_reader.specs.Gives.{◌>>=◌}
-use Rattle.order_reader.specs.Late.{may_be_late}
-use Rattle.order_reader.specs.Lookup.{list_in, number_in, text_in}
-use Rattle.order_reader.specs.Offsets.{last_day, offsets_of}
+use Rattle.geo_json.specs.Lookup.{list_in, number_in, text_in}
+use Rattle.region.specs.Each.{each_of}
+use Rattle.order_rule.specs.Late.{may_be_late}
+use Rattle.order_rule.specs.Offsets.{last_day, offsets_of}
 use Rattle.exact_json.specs.Micro.{whole_of}
 use Rattle.order_reader.specs.declared.fault.Member.{Member}
 use Rattle.order_reader.specs.declared.fault.Member.TheVariants.{From, Days, Method as MethodName, Asr as AsrName, Zone as ZoneName, Height, LateIsha, Sun, Night}

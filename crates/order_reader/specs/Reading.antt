@@ -6,16 +6,16 @@ use Rattle.exact_json.specs.Tree.{Tree, Entry}
 use Rattle.method_table.specs.declared.method.Asr.{Asr}
 use Rattle.method_table.specs.declared.method.Method.{Method}
 use Rattle.night_rule.specs.declared.rule.NightRule.{NightRule}
-use Rattle.order_reader.specs.Asked.{Asked}
-use Rattle.order_reader.specs.Geometry.{geometry_of}
+use Rattle.geo_json.specs.Geometry.{geometry_of}
 use Rattle.order_reader.specs.Gives.{◌>>=◌}
-use Rattle.order_reader.specs.Lookup.{Found, absent, once, again, find_member, object_in}
+use Rattle.geo_json.specs.Lookup.{Found, absent, once, again, find_member, object_in}
 use Rattle.order_reader.specs.Members.{asr_in, days_in, from_in, height_in, late_in, method_in, night_in, offsets_in, sun_in, zone_in}
 use Rattle.order_reader.specs.Words.{member_word}
 use Rattle.order_reader.specs.declared.fault.Member.{Member}
 use Rattle.order_reader.specs.declared.fault.Member.TheVariants as members
 use Rattle.order_reader.specs.declared.fault.OrderFault.{OrderFault}
 use Rattle.order_reader.specs.declared.fault.OrderFault.TheVariants.{Missing, Twice, Kind, Geometry, Region}
+use Rattle.order_rule.specs.Asked.{Asked}
 use Rattle.region.specs.Faults.{first_fault}
 use Rattle.region.specs.Rings.{Polygon}
 use Rattle.region.specs.declared.faults.RegionFault.{RegionFault}

@@ -4,12 +4,11 @@ use Rattle.exact_json.specs.Readings.{Reading}
 use Rattle.exact_json.specs.Tree.{Tree}
 use Rattle.exact_json.specs.declared.fault.JsonFault.{JsonFault}
 use Rattle.exact_json.specs.declared.fault.JsonFault.TheVariants.{NoMemory}
-use Rattle.order_reader.specs.Asked.{Asked}
-use Rattle.order_reader.specs.LineReading.{line_order_in}
 use Rattle.order_reader.specs.Reading.{order_in}
-use Rattle.order_reader.specs.Rule.{IsOrder}
 use Rattle.order_reader.specs.declared.fault.OrderFault.{OrderFault}
 use Rattle.order_reader.specs.declared.fault.OrderFault.TheVariants.{Json, NoMemory as OutOfMemory}
+use Rattle.order_rule.specs.Asked.{Asked}
+use Rattle.order_rule.specs.Rule.{IsOrder}
 
 -- the fault of a text that could not be read, as one of an order
 abbrev pub json_refusal : JsonFault → OrderFault
@@ -28,22 +27,14 @@ ReadsBy reading bytes x = (r : Result Tree JsonFault) × Reading bytes r × (x �
 abbrev pub ReadsOrder : List ℕ → Result Asked OrderFault → Type 0
 ReadsOrder = ReadsBy order_in
 
--- as a canonical line without its LF
-abbrev pub ReadsLine : List ℕ → Result Asked OrderFault → Type 0
-ReadsLine = ReadsBy line_order_in
-
 -- bytes are an order's in one way, or are refused in one way
 abbrev pub OrderReadingsAgree : Type 0
 OrderReadingsAgree = (bytes : List ℕ) (x y : Result Asked OrderFault) → ReadsOrder bytes x → ReadsOrder bytes y → x ≡ y
-
-abbrev pub LineReadingsAgree : Type 0
-LineReadingsAgree = (bytes : List ℕ) (x y : Result Asked OrderFault) → ReadsLine bytes x → ReadsLine bytes y → x ≡ y
 
 -- all bytes are an order's, or are refused
 abbrev pub EveryTextIsReadOrRefused : Type 0
 EveryTextIsReadOrRefused = (bytes : List ℕ) → (x : Result Asked OrderFault) × ReadsOrder bytes x
 
 -- what is read keeps the rule of every order
-pub record OrdersKeepTheRule : Type 0 where
-  pub of_an_order : (bytes : List ℕ) (o : Asked) → ReadsOrder bytes (Ok o) → IsOrder o
-  pub of_a_line : (bytes : List ℕ) (o : Asked) → ReadsLine bytes (Ok o) → IsOrder o
+abbrev pub OrdersKeepTheRule : Type 0
+OrdersKeepTheRule = (bytes : List ℕ) (o : Asked) → ReadsOrder bytes (Ok o) → IsOrder o

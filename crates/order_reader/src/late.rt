@@ -1,19 +1,18 @@
 // Ranges of dates on which Isha is later.
 ghost use Rattle.std.specs.Prelude.{◌≡◌, true, IfOk, option_map};
 ghost use Rattle.exact_json.specs.View.{items_of, tree_of};
-ghost use Rattle.order_reader.specs.Each.{each_of};
 ghost use Rattle.order_reader.specs.Gives.{Gives};
-ghost use Rattle.std.specs.List.{list_all};
-ghost use Rattle.order_reader.specs.Late.{is_makkah, is_range, may_be_late};
 ghost use Rattle.order_reader.specs.Members.{late_in, pair_in, range_of};
+ghost use Rattle.region.specs.Each.{each_of};
+ghost use Rattle.order_rule.specs.Late.{may_be_late};
 
-use crate::date::{Ymd, day_of, is_day, ymd_in};
+use crate::date::{Ymd, day_of, ymd_in};
 use crate::fault::{Member, OrderFault};
-use crate::lookup::{list_in, text_in};
-use crate::ranges::Ranges;
 use exact_json::{Json, JsonList};
+use geo_json::{list_in, text_in};
 use method_table::Method;
 use no_memory::NoMemory;
+use order_rule::{Ranges, may_be_late};
 use std::alloc::Global;
 
 // two dates as they are written
@@ -64,37 +63,9 @@ fn ranges_of(alloc: Global, pairs: &[(Ymd, Ymd)]) -> Result<Option<Vec<(i32, i32
     Ok(Some(ranges))
 }
 
-fn is_range(range: (i32, i32)) -> bool
-    ensures { result ≡ is_range range }
-{
-    is_day(range.0) && is_day(range.1) && range.0 <= range.1
-}
-
-fn are_ranges(ranges: &[(i32, i32)]) -> bool
-    ensures { result ≡ list_all is_range ranges.now }
-{
-    ranges.iter().all(|range| is_range(*range))
-}
-
-fn is_makkah(method: Method) -> bool
-    ensures { result ≡ is_makkah method }
-{
-    matches!(method, Method::Makkah)
-}
-
-// whether an order of the method may have these ranges
-fn may_be_late(method: Method, ranges: &[(i32, i32)]) -> bool
-    ensures { result ≡ may_be_late method ranges.now }
-{
-    let few = ranges.len() <= 8;
-    let sound = are_ranges(ranges);
-    let allowed = ranges.is_empty() || is_makkah(method);
-    few && sound && allowed
-}
-
 /// The ranges of an order of the method.
 #[tactic(auto, unfolding(crate::specs::Members::late_in))]
-pub(crate) fn late_in(alloc: Global, value: &Json, method: Method) -> Result<Ranges, OrderFault>
+pub fn late_in(alloc: Global, value: &Json, method: Method) -> Result<Ranges, OrderFault>
     ensures given { Gives (λ ranges. ranges) result (late_in method (tree_of value.now)) }
     ensures range { IfOk result (λ ranges. may_be_late method ranges ≡ true) }
 {

@@ -2,18 +2,18 @@
 ghost use Rattle.std.specs.Prelude.{◌≡◌, length, ◌≤◌, ◌≤ℤ◌, ◌+ℤ◌, pos, true, IfOk, Result, option_map};
 ghost use Rattle.exact_json.specs.View.{tree_of, entries_of};
 ghost use Rattle.order_reader.specs.Gives.{Gives};
-ghost use Rattle.order_reader.specs.Lookup.{list_in, number_in, text_in};
+ghost use Rattle.geo_json.specs.Lookup.{list_in, number_in, text_in};
 ghost use Rattle.order_reader.specs.Members.{asr_in, asr_of, days_in, from_in, height_in, method_in, night_in, offsets_in, sun_in, whole_within, zone_in, zone_of_number, zone_of_text};
-ghost use Rattle.order_reader.specs.Offsets.{first_day, is_day, is_zone, last_day, offsets_of};
 ghost use Rattle.order_reader.specs.Reading.{needed, optional, rule_in};
+ghost use Rattle.order_rule.specs.Offsets.{first_day, is_day, is_zone, last_day, offsets_of};
 
 use crate::date::{day_of, ymd_in};
 use crate::fault::{Member, OrderFault, member_word};
-use crate::lookup::{Found, find_member, list_in, number_in, text_in};
-use crate::offsets::{Offsets, offsets_of};
 use exact_json::{Decimal, Json, JsonTable};
+use geo_json::{Found, find_member, list_in, number_in, text_in};
 use method_table::{Asr, Method, asr_word, method_of};
 use night_rule::{NightRule, night_rule_of};
+use order_rule::{Offsets, offsets_of};
 use std::alloc::Global;
 use sun_choice::{SunChoice, sun_of};
 use year_table::{RuleFault, Zone, read_rule};
@@ -44,7 +44,7 @@ pub(crate) fn optional<'a>(
 }
 
 /// A whole number from low to high.
-pub(crate) fn whole_within(number: &Decimal, low: i64, high: i64) -> Option<i64>
+pub fn whole_within(number: &Decimal, low: i64, high: i64) -> Option<i64>
     ensures { result ≡ whole_within low high number.now }
 {
     let whole = number.whole()?;
@@ -181,7 +181,7 @@ pub(crate) fn offsets_in(
 
 /// The height, in metres.
 #[tactic(auto, unfolding(crate::specs::Members::height_in))]
-pub(crate) fn height_in(value: &Json) -> Result<u32, OrderFault>
+pub fn height_in(value: &Json) -> Result<u32, OrderFault>
     ensures given { Gives (λ height. height) result (height_in (tree_of value.now)) }
     ensures low { IfOk result (λ height. height ≤ 9000) }
 {
@@ -195,7 +195,7 @@ pub(crate) fn height_in(value: &Json) -> Result<u32, OrderFault>
 }
 
 /// Whose sun the entries are judged by.
-pub(crate) fn sun_in(value: &Json) -> Result<SunChoice, OrderFault>
+pub fn sun_in(value: &Json) -> Result<SunChoice, OrderFault>
     ensures { Gives (λ sun. sun) result (sun_in (tree_of value.now)) }
 {
     let Some(word) = text_in(value) else {
@@ -221,7 +221,7 @@ pub(crate) fn night_in(value: &Json) -> Result<NightRule, OrderFault>
 }
 
 /// The same, where a rule may be lacking.
-pub(crate) fn rule_in(value: &Json) -> Result<Option<NightRule>, OrderFault>
+pub fn rule_in(value: &Json) -> Result<Option<NightRule>, OrderFault>
     ensures { Gives (λ night. night) result (rule_in (tree_of value.now)) }
 {
     Ok(Some(night_in(value)?))

@@ -1,11 +1,10 @@
 // Parts of an order.
 ghost use Rattle.std.specs.Prelude.{◌≡◌, ◌≤◌, ◌≤ℤ◌, ◌+ℤ◌, length, pos, true, Some};
-ghost use Rattle.order_reader.specs.Offsets.{first_day, is_zone, last_day, offsets_of};
+ghost use Rattle.order_rule.specs.Offsets.{first_day, is_zone, last_day, offsets_of};
 
-use crate::offsets::Offsets;
-use crate::ranges::Ranges;
 use method_table::{Asr, Method};
 use night_rule::NightRule;
+use order_rule::{Offsets, Ranges};
 use sun_choice::SunChoice;
 use year_table::Zone;
 

@@ -1,31 +1,27 @@
 // Orders, read from JSON.
-ghost use Rattle.std.specs.Prelude.{◌≡◌, ◌⊎◌, ◌≤◌, true, Some, None, Ok, Err, IfOk, IfErr};
+ghost use Rattle.std.specs.Prelude.{◌≡◌, ◌⊎◌, ◌≤◌, true, Ok, Err, IfOk, IfErr};
 ghost use Rattle.exact_json.specs.View.{entries_of, tree_of};
-ghost use Rattle.order_reader.specs.Asked.{asked_of};
 ghost use Rattle.order_reader.specs.Gives.{Gives};
-ghost use Rattle.order_reader.specs.Late.{may_be_late};
 ghost use Rattle.order_reader.specs.Members.{asr_in, days_in, from_in, height_in, late_in, method_in, offsets_in, sun_in, zone_in};
 ghost use Rattle.order_reader.specs.Parts.{basis_view, extras_view};
 ghost use Rattle.order_reader.specs.Reading.{asked_by, basis_of, district_in, district_of, extras_of, height_of, late_of, night_of, order_in, order_of, sun_of};
-ghost use Rattle.region.specs.Faults.{first_fault};
+ghost use Rattle.order_rule.specs.Asked.{asked_of};
+ghost use Rattle.order_rule.specs.Late.{may_be_late};
 ghost use Rattle.region.specs.Vectors.{polygons_in};
 ghost use Rattle.order_reader.specs.Reads.{ReadsOrder, json_refusal};
 
 use crate::fault::{Member, OrderFault};
-use crate::geometry::read_geometry;
 use crate::late::late_in;
-use crate::lookup::object_in;
 use crate::members::{
     asr_in, days_in, from_in, height_in, method_in, needed, offsets_in, optional, rule_in, sun_in,
     zone_in,
 };
-use crate::order::Order;
 use crate::parts::{Basis, Extras};
-use crate::positions::GeometryFault;
-use crate::ranges::Ranges;
 use exact_json::{Json, JsonFault, JsonTable, read};
+use geo_json::{GeometryFault, object_in, read_geometry};
 use method_table::Method;
 use night_rule::NightRule;
+use order_rule::{Order, Ranges};
 use region::{District, RegionFault};
 use std::alloc::Global;
 use sun_choice::SunChoice;
@@ -113,8 +109,7 @@ pub fn district_of(
     alloc: Global,
     polygons: Vec<Vec<Vec<(i64, i64)>>>,
 ) -> Result<District, OrderFault>
-    ensures given { Gives (λ district. district) result (district_of (polygons_in polygons.items)) }
-    ensures sound { IfOk result (λ district. first_fault district ≡ None) }
+    ensures { Gives (λ district. district) result (district_of (polygons_in polygons.items)) }
 {
     match District::new(alloc, polygons) {
         Ok(district) => Ok(district),
@@ -125,8 +120,7 @@ pub fn district_of(
 
 #[tactic(auto, unfolding(crate::specs::Reading::district_in))]
 fn district_in(alloc: Global, value: &Json) -> Result<District, OrderFault>
-    ensures given { Gives (λ district. district) result (district_in (tree_of value.now)) }
-    ensures sound { IfOk result (λ district. first_fault district ≡ None) }
+    ensures { Gives (λ district. district) result (district_in (tree_of value.now)) }
 {
     let Some(table) = object_in(value) else {
         return Err(OrderFault::Kind(Member::District));
@@ -141,7 +135,6 @@ fn district_in(alloc: Global, value: &Json) -> Result<District, OrderFault>
 /// The order of its parts.
 pub fn order_with(basis: Basis, extras: Extras, district: District) -> Order
     requires late { may_be_late basis.method extras.late ≡ true }
-    requires sound { first_fault district ≡ None }
     ensures { asked_of result ≡ asked_by (basis_view basis) (extras_view extras) district }
 {
     Order {

@@ -1,5 +1,6 @@
 -- What the districts of a set are, from how they were found.
 use Rattle.std.proofs.Common.{◌≡◌, ◌∙◌, refl, sym, ap, subst, map, ◌++◌, ℤ, ◌≤◌, ◌&&◌, Bool, true, false, cond, List, [], ◌∷◌, length, Option, Some, None, option_and_then, Ok, Err, ◌⊎◌, inl, inr, append_assoc, append-nil, arith}
+use Rattle.std.proofs.lemmas.Bool.{and_parts}
 use Rattle.std.specs.List.{AllZip, flat_map}
 use Rattle.std.specs.Prelude.{nat_le}
 use Rattle.std.specs.Option.{option_or}
@@ -8,13 +9,12 @@ use Rattle.std.specs.declared.vec.Vec.{Vec}
 use Rattle.std.proofs.lemmas.List.{map-append}
 use Rattle.std.proofs.lemmas.Bool.Decides.{nat_tests}
 use Rattle.exact_json.specs.Tree.{Tree, Entry}
-use Rattle.order_reader.proofs.EachLemmas.{each_length}
-use Rattle.order_reader.proofs.NumberLemmas.{and_parts}
-use Rattle.order_reader.specs.Each.{each_of}
-use Rattle.order_reader.specs.Geometry.{features_list}
+use Rattle.geo_json.specs.Geometry.{features_list}
 use Rattle.order_reader.specs.Reading.{district_of, unless_refused}
 use Rattle.order_reader.specs.declared.fault.OrderFault.{OrderFault}
 use Rattle.order_reader.specs.declared.fault.OrderFault.TheVariants.{NoMemory, Region}
+use Rattle.region.proofs.EachLemmas.{each_length}
+use Rattle.region.specs.Each.{each_of}
 use Rattle.region.specs.Faults.{first_fault}
 use Rattle.region.specs.Rings.{Polygon}
 use Rattle.region.specs.Vectors.{polygons_in, rings_in}

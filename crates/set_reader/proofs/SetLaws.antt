@@ -8,7 +8,7 @@ use Rattle.order_reader.proofs.GivenSteps.{gave}
 use Rattle.order_reader.proofs.ReadLaws.{answers_agree, some_answer}
 use Rattle.order_reader.proofs.RuleKept.{basis_kept, extras_kept, or_ok, parts_kept}
 use Rattle.order_reader.specs.Gives.{◌>>=◌}
-use Rattle.order_reader.specs.Lookup.{object_in}
+use Rattle.geo_json.specs.Lookup.{object_in}
 use Rattle.order_reader.specs.Reading.{Basis, Extras, asked_by, basis_of, district_of, extras_of, needed}
 use Rattle.order_reader.specs.Reads.{answer_by}
 use Rattle.order_reader.specs.declared.fault.Member.TheVariants as members

@@ -1,6 +1,6 @@
 -- What a set of districts asks for: a set without the proofs of its rule.
 use Rattle.std.specs.Prelude.{List}
-use Rattle.order_reader.specs.Asked as order
+use Rattle.order_rule.specs.Asked as order
 use Rattle.region.specs.Rings.{Polygon}
 use Rattle.set_reader.specs.declared.set.SetOrder.{SetOrder}
 

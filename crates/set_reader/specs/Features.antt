@@ -2,9 +2,9 @@
 use Rattle.std.specs.Prelude.{nat_le, ◌&&◌, if◌then◌else◌, List, length, Option, None, option_and_then}
 use Rattle.std.specs.List.{flat_map}
 use Rattle.exact_json.specs.Tree.{Tree, Entry}
-use Rattle.order_reader.specs.Each.{each_of}
-use Rattle.order_reader.specs.Geometry.{feature_in, features_list}
-use Rattle.order_reader.specs.Lookup.{object_in}
+use Rattle.geo_json.specs.Geometry.{feature_in, features_list}
+use Rattle.geo_json.specs.Lookup.{object_in}
+use Rattle.region.specs.Each.{each_of}
 use Rattle.region.specs.Rings.{Polygon}
 
 -- a Feature with a Polygon or a MultiPolygon

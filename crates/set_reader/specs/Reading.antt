@@ -5,7 +5,7 @@ use Rattle.std.specs.Option.{ok_or}
 use Rattle.exact_json.specs.Tree.{Tree, Entry}
 use Rattle.night_rule.specs.declared.rule.NightRule.{NightRule}
 use Rattle.order_reader.specs.Gives.{◌>>=◌}
-use Rattle.order_reader.specs.Lookup.{object_in}
+use Rattle.geo_json.specs.Lookup.{object_in}
 use Rattle.order_reader.specs.Reading.{asked_by, basis_of, district_of, extras_of, needed}
 use Rattle.order_reader.specs.declared.fault.Member.TheVariants as members
 use Rattle.order_reader.specs.declared.fault.OrderFault.{OrderFault}

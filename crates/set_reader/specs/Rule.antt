@@ -1,6 +1,6 @@
 -- What is true of every set.
 use Rattle.std.specs.Prelude.{◌≡◌, None}
-use Rattle.order_reader.specs.Rule.{IsOrder}
+use Rattle.order_rule.specs.Rule.{IsOrder}
 use Rattle.set_reader.specs.Asked.{SetAsked}
 use Rattle.set_reader.specs.Together.{AreParts}
 

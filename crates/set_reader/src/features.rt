@@ -1,15 +1,15 @@
 // The Features of a collection.
 ghost use Rattle.std.specs.Prelude.{◌≡◌, IfOk};
 ghost use Rattle.exact_json.specs.View.{entries_of, items_of, tree_of};
-ghost use Rattle.order_reader.specs.Each.{each_of};
-ghost use Rattle.order_reader.specs.Geometry.{Answers};
+ghost use Rattle.geo_json.specs.Geometry.{Answers};
+ghost use Rattle.region.specs.Each.{each_of};
 ghost use Rattle.region.specs.Vectors.{polygons_in};
 ghost use Rattle.set_reader.specs.Features.{each_feature, feature_of, features_of, polygons_of};
 ghost use Rattle.set_reader.specs.Views.{features_in};
 
 use exact_json::{Json, JsonList, JsonTable};
+use geo_json::{GeometryFault, feature_in, features_list, object_in};
 use no_memory::NoMemory;
-use order_reader::pieces::{GeometryFault, feature_in, features_list, object_in};
 use std::alloc::Global;
 
 fn feature_of(alloc: Global, value: &Json) -> Result<Vec<Vec<Vec<(i64, i64)>>>, GeometryFault>

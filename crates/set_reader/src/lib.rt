@@ -4,12 +4,11 @@
 
 mod districts;
 mod features;
-mod laws;
+pub mod laws;
 mod parts;
 mod read;
 mod set;
 
-pub use laws::{every_text_is_a_set_or_refused, set_readings_agree, sets_keep_the_rule};
 pub use parts::Parts;
 pub use read::read_set;
 pub use set::SetOrder;

@@ -13,10 +13,9 @@ use crate::features::{polygons_of, read_features};
 use crate::parts::Parts;
 use crate::set::SetOrder;
 use exact_json::{Json, JsonTable, read};
+use geo_json::{GeometryFault, object_in};
 use night_rule::NightRule;
-use order_reader::pieces::{
-    GeometryFault, basis_of, district_of, extras_of, json_refusal, needed, object_in, order_with,
-};
+use order_reader::pieces::{basis_of, district_of, extras_of, json_refusal, needed, order_with};
 use order_reader::{Member, OrderFault};
 use std::alloc::Global;
 

@@ -3,7 +3,7 @@ ghost use Rattle.std.specs.Prelude.{◌≡◌, None};
 ghost use Rattle.set_reader.specs.Together.{AreParts};
 
 use crate::parts::Parts;
-use order_reader::Order;
+use order_rule::Order;
 
 /// What the tables of a set of districts are asked for.
 #[derive(Drop)]

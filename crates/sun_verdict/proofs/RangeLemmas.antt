@@ -6,7 +6,9 @@ use Rattle.std.proofs.lemmas.Int.{ints}
 use Rattle.sun_choice.specs.declared.choice.SunChoice.{SunChoice}
 use Rattle.sun_choice.specs.declared.choice.SunChoice.TheVariants.{Usno, Meeus}
 use Rattle.sun_choice.specs.Choice.{sun_word}
-use Rattle.sun_verdict.specs.Decimals.{at_most, digits_in, is_negative, millionths_in, with_sign, without_sign}
+use Rattle.digit_text.specs.Digits.{digits_in}
+use Rattle.digit_text.specs.Sign.{is_negative, with_sign, without_sign}
+use Rattle.sun_verdict.specs.Decimals.{at_most, millionths_in}
 use Rattle.sun_verdict.specs.Request.{IsAsked, IsInRange, IsWithin, angle_in, coordinate_in, asked_of, minute_in, question_in, request_in, request_of}
 use Rattle.sun_verdict.specs.declared.request.Question.{Question}
 use Rattle.sun_verdict.specs.declared.request.Question.TheVariants.{Altitude, Meridian, Shadow}

@@ -1,17 +1,10 @@
 -- Numbers as words spell them and as lines print them. A decimal has six places and stands for a whole number of
 -- millionths, as a coordinate in microdegrees.
-use Rattle.std.specs.Prelude.{ℕ, ◌+◌, ◌-◌, ◌*◌, ◌/◌, ◌%◌, ◌^◌, Bool, true, false, ◌&&◌, ◌==◌, nat_lt, nat_le, if◌then◌else◌, List, [], ◌++◌, length, drop, slice_index, codes, decimal, ℤ, pos, neg_ℤ, int_lt, unsigned_abs, Option, Some, None, option_map}
-use Rattle.std.specs.Char.{is_ascii_digit}
-use Rattle.std.specs.List.{list_all, position_or_len, before_first, after_first}
-use Rattle.std.specs.Str.Parse.{digits_value}
+use Rattle.std.specs.Prelude.{ℕ, ◌+◌, ◌-◌, ◌*◌, ◌/◌, ◌%◌, ◌^◌, Bool, ◌==◌, nat_le, if◌then◌else◌, List, [], ◌++◌, length, codes, decimal, ℤ, pos, int_lt, unsigned_abs, Option, Some, None, option_map}
+use Rattle.std.specs.List.{position_or_len, before_first, after_first}
+use Rattle.digit_text.specs.Digits.{digits_in}
 
 -- ---- as words spell them
-
--- the number that one to `most` digits spell
-unfoldable pub digits_in : ℕ → List ℕ → Option ℕ
-digits_in most word =
-    if nat_lt 0 (length word) && (nat_le (length word) most && list_all is_ascii_digit word)
-    then Some (digits_value 10 word) else None
 
 -- one to six digits behind a point, in millionths
 unfoldable pub places_in : List ℕ → Option ℕ
@@ -31,17 +24,6 @@ unfoldable pub millionths_in : List ℕ → Option ℕ
 millionths_in word =
     if position_or_len is_point word == length word then decimal_of (digits_in 3 word) (Some 0)
     else decimal_of (digits_in 3 (before_first is_point word)) (places_in (after_first is_point word))
-
-abbrev pub is_negative : List ℕ → Bool
-is_negative word = slice_index word 0 == 45
-
--- a word behind its sign, if it has one
-abbrev pub without_sign : List ℕ → List ℕ
-without_sign word = if is_negative word then drop 1 word else word
-
-abbrev pub with_sign : Bool → ℕ → ℤ
-with_sign true n = neg_ℤ (pos n)
-with_sign false n = pos n
 
 -- a number that is at most this
 abbrev pub at_most : ℕ → Option ℕ → Option ℕ

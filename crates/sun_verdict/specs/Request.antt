@@ -3,7 +3,9 @@ use Rattle.std.specs.Prelude.{ℕ, ◌==◌, ◌≤◌, if◌then◌else◌, Lis
 use Rattle.sun_choice.specs.Choice.{sun_word}
 use Rattle.sun_choice.specs.declared.choice.SunChoice.{SunChoice}
 use Rattle.sun_choice.specs.declared.choice.SunChoice.TheVariants.{Usno, Meeus}
-use Rattle.sun_verdict.specs.Decimals.{digits_in, millionths_in, is_negative, without_sign, with_sign, at_most}
+use Rattle.digit_text.specs.Digits.{digits_in}
+use Rattle.digit_text.specs.Sign.{is_negative, with_sign, without_sign}
+use Rattle.sun_verdict.specs.Decimals.{millionths_in, at_most}
 use Rattle.sun_verdict.specs.declared.request.Question.{Question}
 use Rattle.sun_verdict.specs.declared.request.Question.TheVariants.{Altitude, Meridian, Shadow}
 use Rattle.sun_verdict.specs.declared.request.Request.{Request}

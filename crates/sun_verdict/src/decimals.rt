@@ -1,57 +1,21 @@
 // Numbers as words spell them and as lines print them.
-ghost use Rattle.std.specs.Prelude.{◌≡◌, ◌+◌, ◌-◌, ◌*◌, ◌/◌, ◌%◌, ◌^◌, ◌<◌, ◌≤◌, length, IsTrue, IfSome, IfOk, unsigned_abs, string_bytes, decimal};
-ghost use Rattle.std.specs.Char.{is_ascii_digit, digit_value};
-ghost use Rattle.std.specs.List.{list_all};
-ghost use Rattle.std.specs.Str.Parse.{digits_value};
-ghost use Rattle.sun_verdict.specs.Decimals.{digits_in, places_in, millionths_in, is_negative, without_sign, with_sign, sign_text, places_text, decimal_text};
+ghost use Rattle.std.specs.Prelude.{◌≡◌, ◌+◌, ◌-◌, ◌*◌, ◌/◌, ◌%◌, ◌^◌, ◌<◌, ◌≤◌, length, IfSome, IfOk, unsigned_abs, string_bytes, decimal};
+ghost use Rattle.digit_text.specs.Digits.{digits_in};
+ghost use Rattle.digit_text.specs.Sign.{with_sign};
+ghost use Rattle.sun_verdict.specs.Decimals.{places_in, millionths_in, sign_text, places_text, decimal_text};
 
+use digit_text::digits;
 use std::alloc::{AllocError, Global};
 
-fn are_digits(bytes: &[u8]) -> bool
-    ensures { result ≡ list_all is_ascii_digit bytes.now }
-{
-    bytes.iter().all(|byte| byte.is_ascii_digit())
-}
-
-fn with_digit(value: u32, digit: u8) -> u32
-    requires small { value < 10 ^ 8 }
-    requires digit { IsTrue (is_ascii_digit digit) }
-    ensures value { result ≡ value * 10 + digit_value digit }
-    ensures digit { digit_value digit < 10 }
-{
-    value * 10 + (digit - b'0') as u32
-}
-
-fn value_of(digits: &[u8]) -> u32
-    requires digits { IsTrue (list_all is_ascii_digit digits.now) }
-    requires few { length digits.now ≤ 8 }
-    ensures value { result ≡ digits_value 10 digits.now }
-    ensures bound { result < 10 ^ length digits.now }
-{
-    let mut value = 0;
-    for digit in digits {
-        value = with_digit(value, *digit);
-    }
-    value
-}
-
 /// The number that one to `most` digits spell.
-#[tactic(auto, unfolding(crate::specs::Decimals::digits_in))]
-pub(crate) fn digits(word: &[u8], most: usize) -> Option<u32>
+pub(crate) fn number(word: &[u8], most: usize) -> Option<u32>
     requires { most ≤ 8 }
     ensures value { result ≡ digits_in most word.now }
     ensures bound { IfSome result (λ n. n < 10 ^ length word.now) }
     ensures most { IfSome result (λ n. n < 10 ^ most) }
     ensures few { IfSome result (λ _. length word.now ≤ most) }
 {
-    if word.is_empty() || word.len() > most {
-        return None;
-    }
-    if are_digits(word) {
-        Some(value_of(word))
-    } else {
-        None
-    }
+    Some(digits(word, most)? as u32)
 }
 
 /// One to six digits behind a point, in millionths.
@@ -61,7 +25,7 @@ fn places(word: &str) -> Option<u32>
     ensures bound { IfSome result (λ n. n < 1000000) }
 {
     let count = word.len();
-    let value = digits(word.as_bytes(), 6)?;
+    let value = number(word.as_bytes(), 6)?;
     Some(value * scale(count))
 }
 
@@ -96,25 +60,14 @@ pub(crate) fn millionths(word: &str) -> Option<u32>
 {
     match word.split_once('.') {
         Some((before, after)) => {
-            let whole = digits(before.as_bytes(), 3)?;
+            let whole = number(before.as_bytes(), 3)?;
             let places = places(after)?;
             Some(decimal(whole, places))
         }
         None => {
-            let whole = digits(word.as_bytes(), 3)?;
+            let whole = number(word.as_bytes(), 3)?;
             Some(decimal(whole, 0))
         }
-    }
-}
-
-/// Whether a word has a sign, and the word behind it.
-pub(crate) fn split_sign(word: &str) -> (bool, &str)
-    ensures sign { result.0 ≡ is_negative word.now }
-    ensures rest { result.1.now ≡ without_sign word.now }
-{
-    match word.strip_prefix('-') {
-        Some(rest) => (true, rest),
-        None => (false, word),
     }
 }
 

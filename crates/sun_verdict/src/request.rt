@@ -1,9 +1,11 @@
 // The words of `sun MINUTE LON LAT WHAT [meeus]`.
 ghost use Rattle.std.specs.Prelude.{◌≡◌, ◌≤◌, map, pos, ◌≤ℤ◌, IfSome, Some, option_map, string_bytes};
-ghost use Rattle.sun_verdict.specs.Decimals.{at_most, with_sign};
+ghost use Rattle.digit_text.specs.Sign.{with_sign};
+ghost use Rattle.sun_verdict.specs.Decimals.{at_most};
 ghost use Rattle.sun_verdict.specs.Request.{minute_in, coordinate_in, angle_in, question_in, asked_of, request_in, IsWithin, IsAsked, IsInRange};
 
-use crate::decimals::{digits, millionths, signed, split_sign};
+use crate::decimals::{millionths, number, signed};
+use digit_text::split_sign;
 use sun_choice::{SunChoice, sun_word};
 
 /// What is asked of the sun.
@@ -59,7 +61,7 @@ fn read_minute(word: &str) -> Option<i64>
     if rest.as_bytes().first() == Some(&b'0') {
         return if word == "0" { Some(0) } else { None };
     }
-    let magnitude = digits(rest.as_bytes(), 8)?;
+    let magnitude = number(rest.as_bytes(), 8)?;
     within(negative, magnitude, 53_200_000)
 }
 

@@ -1,3 +1,4 @@
+pub mod CivilLemmas
 pub mod DateLemmas
 pub mod DayLemmas
 pub mod LineLemmas

@@ -1,6 +1,7 @@
 -- The Gregorian date of a day since 1970-01-01, and its text.
-use Rattle.std.specs.Prelude.{ℕ, zero, suc, ◌+◌, ◌-◌, ◌/◌, ◌%◌, ◌++◌, nat_le, if◌then◌else◌, ℤ, ◌-ℤ◌, unsigned_abs, List, codes, decimal}
-use Rattle.jiff_core.specs.Calendar.{days_from_civil, days_of_months}
+use Rattle.std.specs.Prelude.{ℕ, zero, suc, ◌+◌, ◌-◌, ◌*◌, ◌/◌, ◌%◌, ◌++◌, Bool, ◌&&◌, nat_le, if◌then◌else◌, ℤ, pos, ◌-ℤ◌, unsigned_abs, List, slice_index, codes, decimal, Option, Some, None}
+use Rattle.std.specs.Char.{is_ascii_digit}
+use Rattle.jiff_core.specs.Calendar.{days_from_civil, days_in_month, days_of_months}
 use Rattle.jiff_tz.specs.Year.{year_of_day}
 
 -- the number of a day in its year, from 0
@@ -35,3 +36,19 @@ parts_text year month day =
 
 abbrev pub date_text : ℤ → List ℕ
 date_text day = parts_text (unsigned_abs (year_of_day day)) (month_of day) (day_of_month day)
+
+-- the number that the two digits at a place write
+abbrev pub two_digits_at : List ℕ → ℕ → Option ℕ
+two_digits_at s i =
+    if is_ascii_digit (slice_index s i) && is_ascii_digit (slice_index s (i + 1))
+    then Some ((slice_index s i - 48) * 10 + (slice_index s (i + 1) - 48)) else None
+
+-- the calendar has the date, and its year has four digits
+abbrev pub is_date : ℕ → ℕ → ℕ → Bool
+is_date year month day =
+    nat_le year 9999
+    && ((nat_le 1 month && nat_le month 12) && (nat_le 1 day && nat_le day (days_in_month (pos year) month)))
+
+-- the day since 1970-01-01 of a date
+abbrev pub civil_day : ℕ → ℕ → ℕ → Option ℤ
+civil_day year month day = if is_date year month day then Some (days_from_civil (pos year) month day) else None

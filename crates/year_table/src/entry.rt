@@ -22,9 +22,10 @@ pub fn date_text(alloc: Global, day: i32) -> Result<Vec<u8>, NoMemory>
     Ok(date_string(alloc, day)?.into_bytes())
 }
 
-pub(crate) fn date_string(alloc: Global, day: i32) -> Result<String, NoMemory>
-    requires not_early { neg_ℤ (pos 25567) ≤ℤ day }
-    requires not_late { day ≤ℤ pos 47846 }
+/// The same of a day of the years from 1899 to 2101.
+pub fn date_string(alloc: Global, day: i32) -> Result<String, NoMemory>
+    requires not_early { neg_ℤ (pos 26000) ≤ℤ day }
+    requires not_late { day ≤ℤ pos 48300 }
     ensures { IfOk result (λ t. string_bytes t ≡ date_text day) }
 {
     Ok(format!(in alloc; "{}", parts_of(day))?)

@@ -6,6 +6,7 @@ mod date;
 mod entry;
 mod head;
 mod offset;
+pub mod pieces;
 mod show;
 mod zone;
 

@@ -8,7 +8,7 @@ use std::fmt::{Display, Formatter, Result, Write};
 
 // a number below 100 in two digits
 #[derive(Clone, Copy)]
-pub(crate) struct TwoDigits(pub u32);
+pub struct TwoDigits(pub u32);
 
 impl Display for TwoDigits {
     ghost output = { λ n. Some (two_digits n.0) };

@@ -1,6 +1,6 @@
 use Rattle.std.proofs.Common.{◌∙◌, sym, get_or}
 use Rattle.std.proofs.lemmas.Option.{slice_get-get_or}
-use Rattle.order_reader.proofs.GeometryLemmas.{no_more, none_here, one_more}
+use Rattle.geo_json.proofs.GeometryLemmas.{no_more, none_here, one_more}
 use Rattle.order_reader.specs.Members.{range_of}
 use Rattle.order_reader.specs.declared.date.Ymd.{Ymd}
 use Rattle.order_reader.proofs.late.ranges_of.Goals as goal

@@ -1,11 +1,11 @@
 use Rattle.std.proofs.Common.{subst, sym, ◌≡◌, ◌⊎◌, Err}
 use Rattle.exact_json.specs.View.{tree_of}
 use Rattle.order_reader.proofs.ReadLaws.{json_refusal_is, order_is, refusal_is}
-use Rattle.order_reader.specs.Asked.{asked_of}
 use Rattle.order_reader.specs.Reading.{order_in}
 use Rattle.order_reader.specs.Reads.{ReadsOrder}
 use Rattle.order_reader.specs.declared.fault.OrderFault.TheVariants.{NoMemory}
 use Rattle.order_reader.proofs.read.read_order.Goals as goal
+use Rattle.order_rule.specs.Asked.{asked_of}
 
 pub returns-in-Ok-clause-ok : goal.returns-in-Ok-clause-ok
 returns-in-Ok-clause-ok c = order_is order_in c.args.bytes.now asked_of (tree_of c.in-Ok.value) c.order_in.result c.in-Ok.ensures.ok c.order_in.ensures

@@ -14,5 +14,5 @@ invariant_of-result c =
     record {
       are_parts =
           are_parts (entries_of c.in-Some.table.now) (features_in c.in-Ok.features.items) c.in_ok-parts.parts c.in_ok-whole.whole
-          c.in-Ok.ensures c.in_ok-parts.ensures (ap district_of (sym all) ∙ c.in_ok-whole.ensures.given);
+          c.in-Ok.ensures c.in_ok-parts.ensures (ap district_of (sym all) ∙ c.in_ok-whole.ensures);
     }

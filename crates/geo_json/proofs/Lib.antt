@@ -1,0 +1,2 @@
+pub mod GeometryLemmas
+pub mod LookupLemmas

@@ -1,8 +1,0 @@
-use Rattle.std.proofs.Common.{ap, sym, ◌∙◌}
-use Rattle.exact_json.specs.View.{tree_of}
-use Rattle.order_reader.specs.Lookup.{object_in}
-use Rattle.order_reader.proofs.LookupLemmas.{entries_in_table}
-use Rattle.order_reader.proofs.lookup.object_in.Goals as goal
-
-pub returns-in-Table : goal.returns-in-Table
-returns-in-Table c = sym (ap (λ v. object_in (tree_of v)) c.in-Table.is ∙ entries_in_table c.in-Table.table)

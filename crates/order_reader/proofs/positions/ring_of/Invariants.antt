@@ -1,9 +1,0 @@
-use Rattle.std.proofs.Common.{◌≡◌, drop}
-use Rattle.exact_json.specs.View.{items_of}
-use Rattle.order_reader.specs.Each.{each_of}
-use Rattle.order_reader.specs.Geometry.{position_in}
-use Rattle.order_reader.proofs.EachLemmas.{with_front}
-use Rattle.order_reader.proofs.positions.ring_of.Given as goal
-
-abbrev pub invariant-loop-i : goal.invariant-loop-i
-invariant-loop-i l = with_front l.ring.items (each_of (position_in l.notation) (drop l.i (items_of l.positions))) ≡ each_of (position_in l.notation) (items_of l.positions)

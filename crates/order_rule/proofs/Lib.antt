@@ -1,0 +1,3 @@
+pub mod OffsetLemmas
+pub mod RuleLemmas
+pub mod SignedLemmas

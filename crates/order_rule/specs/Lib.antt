@@ -1,0 +1,4 @@
+pub mod Asked
+pub mod Late
+pub mod Offsets
+pub mod Rule

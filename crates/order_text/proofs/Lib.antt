@@ -1,0 +1,12 @@
+pub mod DateTexts
+pub mod LineAgain
+pub mod LineKept
+pub mod LineLaws
+pub mod LineLemmas
+pub mod LineSpelled
+pub mod LineTree
+pub mod MembersAgain
+pub mod NumberLemmas
+pub mod RuleLemmas
+pub mod SpelledLemmas
+pub mod VersionLemmas

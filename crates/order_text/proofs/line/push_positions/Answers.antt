@@ -1,0 +1,16 @@
+use Rattle.std.proofs.Common.{◌≤◌, [], length, arith}
+use Rattle.std.specs.Prelude.{slice_index_or}
+use Rattle.order_text.specs.Line.{position_text}
+use Rattle.order_text.proofs.LineLemmas.{next_item, last_item}
+use Rattle.order_text.proofs.line.push_positions.Goals as goal
+
+pub loop-i-preserved : goal.loop-i-preserved
+loop-i-preserved c =
+    next_item position_text (slice_index_or (slice_index_or c.args.district.now c.args.polygon []) c.args.ring []) c.loop-i.i c.position.result
+    c.loop-i.line.items c.push_comma.new.line.items c.push_position.new.line.items _
+    c.position.ensures c.in_ok-push_comma.ensures c.in_ok-push_position.ensures c.loop-i.invariant
+
+pub returns : goal.returns
+returns c =
+    let past : length (slice_index_or (slice_index_or c.args.district.now c.args.polygon []) c.args.ring []) ≤ c.loop-i.i = omega arith in
+    last_item position_text (slice_index_or (slice_index_or c.args.district.now c.args.polygon []) c.args.ring []) c.loop-i.i c.loop-i.line.items _ past c.loop-i.invariant

@@ -1,0 +1,23 @@
+use Rattle.std.proofs.Common.{subst, sym, ◌≡◌, ◌⊎◌, Err}
+use Rattle.exact_json.specs.View.{tree_of}
+use Rattle.order_reader.proofs.ReadLaws.{json_refusal_is, order_is, refusal_is}
+use Rattle.order_reader.specs.declared.fault.OrderFault.TheVariants.{NoMemory}
+use Rattle.order_rule.specs.Asked.{asked_of}
+use Rattle.order_text.specs.LineReading.{line_order_in}
+use Rattle.order_text.specs.LineReading.{ReadsLine}
+use Rattle.order_text.proofs.line_reading.read_order_line.Goals as goal
+
+pub returns-in-Ok-clause-ok : goal.returns-in-Ok-clause-ok
+returns-in-Ok-clause-ok c = order_is line_order_in c.args.bytes.now asked_of (tree_of c.in-Ok.value) c.order_in.result c.in-Ok.ensures.ok c.order_in.ensures
+
+pub returns-in-Ok-clause-fault : goal.returns-in-Ok-clause-fault
+returns-in-Ok-clause-fault c = refusal_is line_order_in c.args.bytes.now asked_of (tree_of c.in-Ok.value) c.order_in.result c.in-Ok.ensures.ok c.order_in.ensures
+
+pub returns-in-Err : goal.returns-in-Err
+returns-in-Err c =
+    record {
+      ok = tt;
+      fault =
+          subst (λ fault. (fault ≡ NoMemory) ⊎ ReadsLine c.args.bytes.now (Err fault)) (sym c.json_refusal.ensures)
+          (json_refusal_is line_order_in c.args.bytes.now c.in-Err.fault c.in-Err.ensures.fault);
+    }
