@@ -1,23 +1,10 @@
 -- The canonical line of a number's order, piece after piece.
-use Rattle.std.proofs.Common.{◌≡◌, ◌∙◌, ap, refl, sym, ℕ, ℤ, List, [], ◌∷◌, ◌++◌, codes, append_assoc, append-nil, arith}
-use Rattle.std.proofs.lemmas.Fmt.{decimal_digit, decimal_step}
-use Rattle.order_reader.specs.Line.{body_text, days_text, district_text, items_text, more_text, order_body, position_text, span_text, version_text, words_text}
-use Rattle.order_reader.proofs.LineLemmas.{and_then}
+use Rattle.std.proofs.Common.{◌≡◌, ◌∙◌, ap, sym, ℕ, List, [], ◌∷◌, ◌++◌, codes, append_assoc, append-nil}
+use Rattle.order_text.specs.Line.{body_text, district_text, items_text, more_text, order_body, position_text, span_text, words_text}
+use Rattle.order_text.proofs.LineLemmas.{and_then}
 use Rattle.region.specs.Rings.{Ring}
-use Rattle.year_table.specs.Dates.{date_text}
 use Rattle.year_table.specs.declared.zone.Zone.TheVariants.{Fixed}
 use Rattle.demo_summary.specs.Demo.{demo_asked, demo_asr, demo_from, demo_method, demo_offset, demo_ring}
-
-first_version : codes "{\"version\":1,\"from\":\"" ≡ version_text 1
-first_version = rw (decimal_digit 1 (omega arith)) refl
-
-thirty_days : codes "\",\"days\":30" ≡ days_text 30
-thirty_days = rw (decimal_step 30 (omega arith) (omega arith), decimal_digit 3 (omega arith)) refl
-
-pub span_pushed : (day : ℤ) (l a b c : List ℕ) → a ≡ l ++ codes "{\"version\":1,\"from\":\"" → b ≡ a ++ date_text day → c ≡ b ++ codes "\",\"days\":30" → c ≡ l ++ span_text 1 day 30
-span_pushed day l a b c first from last =
-    let one = and_then l a b (version_text 1) (date_text day) (first ∙ ap (λ t. l ++ t) first_version) from in
-    and_then l b c (version_text 1 ++ date_text day) (days_text 30) one (last ∙ ap (λ t. b ++ t) thirty_days)
 
 abbrev bracketed : List ℕ → List ℕ
 bracketed t = codes "[" ++ ((t ++ []) ++ codes "]")

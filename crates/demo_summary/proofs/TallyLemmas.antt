@@ -16,7 +16,7 @@ use Rattle.order_table.specs.Made.{searched}
 use Rattle.order_table.specs.Table.{DayTable, day_undecided, entries_in, is_undecided}
 use Rattle.order_table.specs.declared.day.Day.{Day}
 use Rattle.order_table.proofs.TextLemmas.{entries_of_zip}
-use Rattle.order_reader.specs.Asked.{Asked}
+use Rattle.order_rule.specs.Asked.{Asked}
 use Rattle.order_table.specs.Trees.{entries_of, table_of_trees, undecided}
 use Rattle.worker_table.specs.Entries.{entries_on}
 use Rattle.outcome.specs.declared.stop.Stop.{Stop}

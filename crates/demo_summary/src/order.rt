@@ -1,11 +1,12 @@
 // The order that a number stands for.
 ghost use Rattle.std.specs.Prelude.{◌≡◌, IfOk};
-ghost use Rattle.order_reader.specs.Asked.{asked_of};
+ghost use Rattle.order_rule.specs.Asked.{asked_of};
 ghost use Rattle.demo_summary.specs.Demo.{demo_asked};
 
 use crate::line::demo_line;
 use no_memory::NoMemory;
-use order_reader::{Order, read_order_line};
+use order_rule::Order;
+use order_text::read_order_line;
 use std::alloc::Global;
 
 /// The order that a number stands for: one ring of 65 positions, and 30 days of 2025 and 2026.

@@ -28,12 +28,12 @@ use Rattle.method_table.specs.declared.problem.Kind.{Kind}
 use Rattle.method_table.specs.declared.problem.Side.{Side}
 use Rattle.method_table.specs.Row.{Row, row}
 use Rattle.method_table.specs.Table.{base_of, isha_shift}
-use Rattle.order_reader.proofs.OffsetLemmas.{offset_in_range}
-use Rattle.order_reader.specs.Asked.{Asked}
-use Rattle.order_reader.specs.Each.{each_of}
-use Rattle.order_reader.specs.Late.{has_day, interval_on}
-use Rattle.order_reader.specs.Offsets.{IsOffset, first_day, is_zone, last_day, offsets_of}
-use Rattle.order_reader.specs.Rule.{IsOrder}
+use Rattle.order_rule.proofs.OffsetLemmas.{offset_in_range}
+use Rattle.order_rule.specs.Asked.{Asked}
+use Rattle.region.specs.Each.{each_of}
+use Rattle.order_rule.specs.Late.{has_day, interval_on}
+use Rattle.order_rule.specs.Offsets.{IsOffset, first_day, is_zone, last_day, offsets_of}
+use Rattle.order_rule.specs.Rule.{IsOrder}
 use Rattle.order_table.proofs.DayLemmas.{is_day}
 use Rattle.order_table.proofs.RightLemmas.{in_range, one_each, tables_are_right}
 use Rattle.order_table.specs.Days.{day_with, days_from, days_of, noon_on, rows_on}

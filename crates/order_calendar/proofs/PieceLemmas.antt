@@ -12,7 +12,7 @@ use Rattle.ical_text.specs.Moments.{stamp_text}
 use Rattle.ical_text.specs.Tables.{Sheet, table_events}
 use Rattle.method_table.specs.declared.problem.Problem.{Problem}
 use Rattle.method_table.specs.Row.{Row, row_of}
-use Rattle.order_reader.specs.Asked.{Asked}
+use Rattle.order_rule.specs.Asked.{Asked}
 use Rattle.order_table.specs.Made.{searched}
 use Rattle.order_table.specs.Ready.{IsReady, found_in}
 use Rattle.order_table.specs.Table.{DayTable, day_undecided, is_undecided}

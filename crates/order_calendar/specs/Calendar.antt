@@ -3,7 +3,7 @@ use Rattle.std.specs.Prelude.{ℕ, List, map}
 use Rattle.std.specs.Fmt.{signed_decimal}
 use Rattle.ical_text.specs.Tables.{Found, Sheet, table_calendar, table_events}
 use Rattle.ical_text.specs.declared.event.Event.{Event}
-use Rattle.order_reader.specs.Asked.{Asked}
+use Rattle.order_rule.specs.Asked.{Asked}
 use Rattle.order_table.specs.Table.{DayTable}
 use Rattle.order_table.specs.Trees.{table_of_trees}
 use Rattle.region.specs.Extent.{latitudes, least, longitudes}

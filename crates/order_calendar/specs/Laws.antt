@@ -2,8 +2,8 @@
 use Rattle.std.specs.Prelude.{Ok}
 use Rattle.ical_text.specs.Laws.{Reads}
 use Rattle.ical_text.specs.Lines.{joined_lines}
-use Rattle.order_reader.specs.Asked.{Asked}
-use Rattle.order_reader.specs.Rule.{IsOrder}
+use Rattle.order_rule.specs.Asked.{Asked}
+use Rattle.order_rule.specs.Rule.{IsOrder}
 use Rattle.order_calendar.specs.Calendar.{calendar_of, events_of}
 
 -- the calendar of every order is read as its events, in order

@@ -4,7 +4,7 @@ ghost use Rattle.ical_text.specs.Calendar.{head_text};
 ghost use Rattle.method_table.specs.Row.{row_of};
 ghost use Rattle.order_calendar.specs.Calendar.{calendar_of};
 ghost use Rattle.order_calendar.specs.Pieces.{days_text, found_text, sheet_seen};
-ghost use Rattle.order_reader.specs.Asked.{asked_of};
+ghost use Rattle.order_rule.specs.Asked.{asked_of};
 ghost use Rattle.order_table.specs.Made.{searched};
 ghost use Rattle.order_table.specs.Printing.{IsPrintable};
 ghost use Rattle.order_table.specs.Ready.{found_in};
@@ -20,7 +20,7 @@ use crate::sheet::Sheet;
 use cell_judge::Sky;
 use cell_split::Entry;
 use ical_text::{calendar_end, calendar_head};
-use order_reader::Order;
+use order_rule::Order;
 use order_table::{Day, Ready, open_count, prepare};
 use outcome::{Stop, write_text};
 use source_sink::{Sink, write_all};
@@ -28,10 +28,7 @@ use std::alloc::Global;
 use std::sync::Wait;
 use std::thread::Threads;
 use steal_pool::Gate;
-use worker_table::search_days;
-
-/// How many days one search serves, as that of a table.
-const DAYS_TOGETHER: usize = 8;
+use worker_table::{end_of_search, search_days};
 
 /// Writes the events of a day with these entries; answers how many of them are undecided.
 fn write_day<K: Sink>(
@@ -129,7 +126,7 @@ fn write_all_days<R: Threads + Wait + Sync, K: Sink, G: Gate + Sync>(
     let mut undecided = 0;
     let mut begun = 0;
     while begun < days.len() {
-        let end = days.len().min(begun + DAYS_TOGETHER);
+        let end = end_of_search(begun, days.len());
         match write_together(rt, alloc, sheet, sky, &days[begun..end], workers, gate, out) {
             Ok(count) => undecided += count,
             Err(stop) => return Err(stop),
@@ -187,6 +184,7 @@ pub fn write_calendar<R: Threads + Wait + Sync, K: Sink, G: Gate + Sync>(
     ensures count { IfOk result (λ count. count ≡ undecided (asked_of order)) }
     ensures right { IsRightTable (asked_of order) }
 {
+    order.keeps_the_rule();
     let Ok(sheet) = sheet_of(alloc, &order) else {
         return Err(Stop::NoMemory);
     };

@@ -2,12 +2,12 @@
 ghost use Rattle.std.specs.Prelude.{◌≡◌, ◌≤ℤ◌, IfOk, string_bytes};
 ghost use Rattle.order_calendar.specs.Calendar.{sheet_of, zone_words};
 ghost use Rattle.order_calendar.specs.Pieces.{sheet_seen};
-ghost use Rattle.order_reader.specs.Asked.{asked_of};
-ghost use Rattle.order_reader.specs.Offsets.{first_day, last_day};
+ghost use Rattle.order_rule.specs.Asked.{asked_of};
+ghost use Rattle.order_rule.specs.Offsets.{first_day, last_day};
 
 use crate::sheet::Sheet;
 use no_memory::NoMemory;
-use order_reader::Order;
+use order_rule::Order;
 use std::alloc::Global;
 use year_table::Zone;
 

@@ -1,6 +1,6 @@
 // What the events of a calendar have in common.
 ghost use Rattle.std.specs.Prelude.{◌≤ℤ◌};
-ghost use Rattle.order_reader.specs.Offsets.{first_day, last_day};
+ghost use Rattle.order_rule.specs.Offsets.{first_day, last_day};
 
 use method_table::{Asr, Method};
 

@@ -20,9 +20,9 @@ use Rattle.night_portion.specs.Sun.{night_rows}
 use Rattle.night_rule.specs.declared.rule.NightRule.{NightRule}
 use Rattle.method_table.specs.declared.problem.Problem.{Problem}
 use Rattle.cell_judge.proofs.ExtentLemmas.{IsBetween, west_near, south_near, xs_near}
-use Rattle.order_reader.specs.Asked.{Asked}
-use Rattle.order_reader.specs.Late.{interval_on}
-use Rattle.order_reader.specs.Offsets.{IsOffset, first_day, last_day}
+use Rattle.order_rule.specs.Asked.{Asked}
+use Rattle.order_rule.specs.Late.{interval_on}
+use Rattle.order_rule.specs.Offsets.{IsOffset, first_day, last_day}
 use Rattle.order_table.specs.Days.{NightRows, days_from, days_of, night_on, noon_on, rows_on}
 use Rattle.order_table.specs.Made.{IsDayAt, day_of}
 use Rattle.order_table.specs.declared.day.Day.{Day}

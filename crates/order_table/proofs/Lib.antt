@@ -3,3 +3,4 @@ pub mod NightLemmas
 pub mod DayLemmas
 pub mod RightLemmas
 pub mod TableLemmas
+pub mod WholeTable

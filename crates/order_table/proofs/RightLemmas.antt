@@ -21,19 +21,18 @@ use Rattle.cell_judge.specs.Skies.{row_at, sky_content}
 use Rattle.cell_judge.proofs.DayLaws.{days_have_rows}
 use Rattle.cell_judge.proofs.EntryLaws.{lies_in_root, one_decided_entry_is_right, true_verdicts_make_right_entries}
 use Rattle.cell_judge.proofs.SkyLaws.{skies_tell_the_truth}
-use Rattle.order_reader.proofs.EachLemmas.{each_length}
-use Rattle.order_reader.proofs.OffsetLemmas.{days_length, offsets_in_range}
-use Rattle.order_reader.specs.Asked.{Asked, asked_of}
-use Rattle.order_reader.specs.Late.{interval_on}
-use Rattle.order_reader.specs.Offsets.{IsOffset, first_day, last_day, offsets_of, days_from as order_days}
-use Rattle.order_reader.specs.Rule.{IsOrder}
-use Rattle.order_reader.specs.declared.order.Order.{Order}
+use Rattle.region.proofs.EachLemmas.{each_length}
+use Rattle.order_rule.proofs.OffsetLemmas.{days_length, offsets_in_range}
+use Rattle.order_rule.specs.Asked.{Asked}
+use Rattle.order_rule.specs.Late.{interval_on}
+use Rattle.order_rule.specs.Offsets.{IsOffset, first_day, last_day, offsets_of, days_from as order_days}
+use Rattle.order_rule.specs.Rule.{IsOrder}
 use Rattle.year_table.specs.Zones.{day_offset}
 use Rattle.chosen_sun.proofs.SunLaws.{suns_are_sound}
 use Rattle.sun_choice.specs.declared.choice.SunChoice.{SunChoice}
 use Rattle.order_table.specs.Days.{NightRows, day_with, days_from, night_by, night_on, noon_on, rows_on}
 use Rattle.order_table.specs.Laws.{TablesAreRight}
-use Rattle.order_table.specs.RightTable.{AreRightEntries, IsRightDay, IsRightEntry, IsRightNight, IsRightTable, scene_of}
+use Rattle.order_table.specs.RightTable.{AreRightEntries, IsRightDay, IsRightEntry, IsRightNight, scene_of}
 use Rattle.order_table.specs.Table.{night_found, night_rows_in, rows_in}
 use Rattle.order_table.specs.Trees.{entries_of, entry_at, night_entries_of, root_over, table_of_trees, tree_day, tree_night}
 use Rattle.order_table.proofs.DayLemmas.{is_day, root_is_root}
@@ -147,18 +146,3 @@ tables_are_right o is = record {
       (right_days o is.sound is.low o.from_day o.offsets (recursion_from_All IsOffset o.offsets (in_range o is)) is.not_early
       (rw (one_each o is) is.not_late));
 }
-
-pub order_is_right : (o : Order) → IsRightTable (asked_of o)
-order_is_right o =
-    tables_are_right (asked_of o)
-    (record {
-      not_early = o.not_early;
-      not_late = o.not_late;
-      some_days = o.some_days;
-      few_days = o.few_days;
-      known_zone = o.known_zone;
-      offset_each = o.offset_each;
-      low = o.low;
-      late_in_range = o.late_in_range;
-      sound = o.sound;
-    })

@@ -8,15 +8,14 @@ use Rattle.cell_split.specs.declared.cell.Cell.{Cell}
 use Rattle.cell_split.specs.declared.verdict.Entry.{Entry}
 use Rattle.cell_judge.specs.Skies.{sky_content}
 use Rattle.method_table.specs.Row.{Row}
-use Rattle.order_reader.specs.Asked.{Asked}
+use Rattle.order_rule.specs.Asked.{Asked}
 use Rattle.region.specs.Rings.{Polygon}
-use Rattle.year_table.specs.Lines.{end_line}
 use Rattle.sun_choice.specs.declared.choice.SunChoice.{SunChoice}
 use Rattle.order_table.specs.Days.{days_of}
 use Rattle.order_table.specs.Made.{day_of, searched}
-use Rattle.order_table.specs.Ready.{IsReady, found_in, front_of}
-use Rattle.order_table.specs.Table.{day_text, day_undecided, days_text, days_undecided, table_text}
-use Rattle.order_table.specs.Trees.{columns, entries_of, entry_at, root_over, table_of, table_of_trees, tree_day, undecided}
+use Rattle.order_table.specs.Ready.{IsReady, found_in}
+use Rattle.order_table.specs.Table.{day_text, day_undecided, days_text, days_undecided}
+use Rattle.order_table.specs.Trees.{columns, entries_of, entry_at, root_over, table_of_trees, tree_day, undecided}
 use Rattle.order_table.specs.declared.day.Day.{Day}
 use Rattle.order_table.specs.declared.ready.Ready.{Ready}
 
@@ -85,12 +84,6 @@ table_found o sun polygons root days is_sun is_district is_root are_days =
 
 pub ready_is : (o : Asked) (r : Ready) → IsReady o r → found_in r ≡ table_of_trees o
 ready_is o r is = table_found o r.sky.sun r.sky.district r.sky.root r.days.items is.sun is.district is.root is.days
-
-pub table_is : (o : Asked) (r : Ready) (count : ℕ) (end : List ℕ) → IsReady o r → count ≡ days_undecided (found_in r) →
-    end ≡ end_line o.days count → table_of o ≡ front_of r ++ end
-unfolding table_of
-table_is o r count end is is_count is_end =
-    rw (is_end, is_count, is.head) (ap (table_text o) (sym (ready_is o r is)))
 
 pub count_is : (o : Asked) (r : Ready) (count : ℕ) → IsReady o r → count ≡ days_undecided (found_in r) → count ≡ undecided o
 unfolding undecided

@@ -5,8 +5,8 @@ use Rattle.method_table.specs.Row.{Row}
 use Rattle.method_table.specs.Table.{noon_of, rows}
 use Rattle.night_portion.specs.Sun.{night_rows}
 use Rattle.night_rule.specs.declared.rule.NightRule.{NightRule}
-use Rattle.order_reader.specs.Asked.{Asked}
-use Rattle.order_reader.specs.Late.{interval_on}
+use Rattle.order_rule.specs.Asked.{Asked}
+use Rattle.order_rule.specs.Late.{interval_on}
 use Rattle.region.specs.Extent.{greatest, least, longitudes}
 
 -- the rows of sunrise and sunset, and what the night's minutes are made by

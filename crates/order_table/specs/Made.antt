@@ -1,8 +1,8 @@
 -- Days and searches as the code keeps them.
 use Rattle.std.specs.Prelude.{◌≡◌, ℕ, pos, ◌+ℤ◌, List, map, option_map, slice_index_or}
 use Rattle.cell_split.specs.declared.cell.Cell.{Cell}
-use Rattle.method_table.specs.Row.{row_of}
-use Rattle.order_reader.specs.Asked.{Asked}
+use Rattle.method_table.specs.Row.{Row, row_of}
+use Rattle.order_rule.specs.Asked.{Asked}
 use Rattle.region.specs.Rings.{Polygon}
 use Rattle.sun_choice.specs.declared.choice.SunChoice.{SunChoice}
 use Rattle.order_table.specs.Days.{DayRows, NightRows, day_with}
@@ -14,8 +14,11 @@ use Rattle.order_table.specs.declared.day.Night.{Night}
 abbrev pub night_of : Night → NightRows
 night_of night = record { rule = night.rule; method = night.method; rows = map row_of night.problems }
 
+abbrev pub rows_of : Day → List Row
+rows_of day = map row_of day.problems
+
 abbrev pub day_of : Day → DayRows
-day_of day = record { number = day.number; rows = map row_of day.problems; night = option_map night_of day.night }
+day_of day = record { number = day.number; rows = rows_of day; night = option_map night_of day.night }
 
 -- the day of this number in the order, from 0
 abbrev pub IsDayAt : Asked → ℕ → DayRows → Type 0

@@ -1,9 +1,9 @@
 -- What is ready before the first line of a table is written.
-use Rattle.std.specs.Prelude.{◌≡◌, ℕ, List, ◌++◌, map}
-use Rattle.order_reader.specs.Asked.{Asked}
+use Rattle.std.specs.Prelude.{◌≡◌, List, map}
+use Rattle.order_rule.specs.Asked.{Asked}
 use Rattle.order_table.specs.Days.{days_of}
 use Rattle.order_table.specs.Made.{day_of, searched}
-use Rattle.order_table.specs.Table.{DayTable, days_text, head_of}
+use Rattle.order_table.specs.Table.{DayTable, head_of}
 use Rattle.order_table.specs.Trees.{root_over}
 use Rattle.order_table.specs.declared.ready.Ready.{Ready}
 
@@ -17,7 +17,3 @@ pub record IsReady (o : Asked) (r : Ready) : Type 0 where
 -- the days with the entries that a search finds
 abbrev pub found_in : Ready → List DayTable
 found_in r = map (searched r.sky.sun r.sky.district r.sky.root) r.days.items
-
--- the head and the days
-abbrev pub front_of : Ready → List ℕ
-front_of r = r.head.items ++ days_text (found_in r)

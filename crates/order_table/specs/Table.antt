@@ -6,7 +6,7 @@ use Rattle.method_table.specs.declared.method.Method.{Method}
 use Rattle.method_table.specs.Row.{Row}
 use Rattle.night_portion.specs.Minutes.{Night, fajr_minute, isha_minute, night_of}
 use Rattle.night_rule.specs.declared.rule.NightRule.{NightRule}
-use Rattle.order_reader.specs.Asked.{Asked}
+use Rattle.order_rule.specs.Asked.{Asked}
 use Rattle.region.specs.Extent.{positions_of}
 use Rattle.year_table.specs.Dates.{date_text}
 use Rattle.year_table.specs.Entries.{entry_text}

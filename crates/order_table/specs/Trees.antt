@@ -8,7 +8,7 @@ use Rattle.cell_split.specs.Judges.{Content}
 use Rattle.cell_split.specs.Tree.{leaves, root_task}
 use Rattle.cell_judge.specs.Skies.{sky_content}
 use Rattle.method_table.specs.Row.{Row}
-use Rattle.order_reader.specs.Asked.{Asked}
+use Rattle.order_rule.specs.Asked.{Asked}
 use Rattle.region.specs.Extent.{latitudes, least, longitudes}
 use Rattle.region.specs.Rings.{Polygon}
 use Rattle.sun_choice.specs.declared.choice.SunChoice.{SunChoice}

@@ -1,7 +1,7 @@
 // A day of a table, and its night.
 ghost use Rattle.std.specs.Prelude.{◌≡◌, ◌≤ℤ◌, length};
 ghost use Rattle.cell_judge.specs.Limits.{AreInLimits};
-ghost use Rattle.order_reader.specs.Offsets.{first_day, last_day};
+ghost use Rattle.order_rule.specs.Offsets.{first_day, last_day};
 
 use method_table::{Method, Problem};
 use night_rule::NightRule;

@@ -4,6 +4,7 @@
 #![tactic(auto)]
 
 mod day;
+mod judged;
 pub mod laws;
 mod ready;
 mod search;
@@ -11,7 +12,8 @@ mod table;
 mod text;
 
 pub use day::{Day, Night};
+pub use judged::judged_days;
 pub use ready::{Ready, days_of, head_of, prepare};
 pub use search::{day_entries, night_entries};
-pub use table::{write_day, write_end, write_searched, write_table};
+pub use table::{begin_table, write_day, write_end, write_searched, write_table};
 pub use text::{day_text, open_count};

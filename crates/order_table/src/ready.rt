@@ -2,8 +2,8 @@
 ghost use Rattle.std.specs.Prelude.{◌≡◌, ◌<◌, ◌≤ℤ◌, ◌+ℤ◌, pos, length, map, option_map, IfOk};
 ghost use Rattle.cell_judge.specs.Limits.{AreInLimits};
 ghost use Rattle.method_table.specs.Row.{row_of};
-ghost use Rattle.order_reader.specs.Asked.{asked_of};
-ghost use Rattle.order_reader.specs.Offsets.{first_day, last_day, IsOffset};
+ghost use Rattle.order_rule.specs.Asked.{asked_of};
+ghost use Rattle.order_rule.specs.Offsets.{first_day, last_day, IsOffset};
 ghost use Rattle.order_table.specs.Days.{days_of, night_on, noon_on, rows_on};
 ghost use Rattle.order_table.specs.Made.{IsDayAt, day_of, night_of};
 ghost use Rattle.order_table.specs.Ready.{IsReady};
@@ -15,7 +15,7 @@ use cell_judge::Sky;
 use method_table::{Problem, noon_of, problems};
 use night_portion::night_problems;
 use no_memory::NoMemory;
-use order_reader::Order;
+use order_rule::Order;
 use region::District;
 use std::alloc::Global;
 use sun_choice::SunChoice;
@@ -28,6 +28,7 @@ fn noon_on(order: &Order, offset: i32) -> i32
     ensures not_negative { pos 0 ≤ℤ result }
     ensures below_a_day { result ≤ℤ pos 1439 }
 {
+    order.district.has_no_fault();
     noon_of(order.district.west(), order.district.east(), offset)
 }
 

@@ -1,12 +1,12 @@
 // The table of an order, searched and written day by day.
 ghost use Rattle.std.specs.Prelude.{◌≡◌, ◌<◌, ◌≤◌, ◌++◌, length, map, IfOk, IfSome, All};
 ghost use Rattle.method_table.specs.Row.{row_of};
-ghost use Rattle.order_reader.specs.Asked.{asked_of};
+ghost use Rattle.order_rule.specs.Asked.{asked_of};
 ghost use Rattle.order_table.specs.Made.{day_of, searched};
 ghost use Rattle.order_table.specs.Printing.{IsPrintable};
-ghost use Rattle.order_table.specs.Ready.{found_in, front_of};
+ghost use Rattle.order_table.specs.Ready.{IsReady};
 ghost use Rattle.order_table.specs.RightTable.{IsRightTable};
-ghost use Rattle.order_table.specs.Table.{day_found, day_text, day_undecided, days_text, days_undecided};
+ghost use Rattle.order_table.specs.Table.{day_found, day_text, day_undecided, days_text, days_undecided, head_of};
 ghost use Rattle.order_table.specs.Trees.{entries_of, table_of, undecided};
 ghost use Rattle.outcome.specs.Writing.{Writes};
 ghost use Rattle.year_table.specs.Lines.{end_line};
@@ -17,8 +17,8 @@ use crate::search::{day_entries, night_entries};
 use crate::text::{day_text, open_count};
 use cell_judge::Sky;
 use cell_split::Entry;
-use order_reader::Order;
-use outcome::Stop;
+use order_rule::Order;
+use outcome::{Stop, write_text};
 use source_sink::{Sink, write_all};
 use std::alloc::Global;
 use year_table::end_line;
@@ -108,31 +108,36 @@ fn search_days<K: Sink>(
     Ok(undecided)
 }
 
-/// Writes the head, and searches and writes the days behind it; answers how many of their entries are undecided.
-fn write_front<K: Sink>(alloc: Global, ready: &mut Ready, out: &mut K) -> Result<u32, Stop>
-    requires few { length ready.old.days.items ≤ 366 }
-    ensures writes { Writes (front_of ready.old) result
+/// Makes ready the table of an order, and writes its head.
+pub fn begin_table<K: Sink>(alloc: Global, order: Order, out: &mut K) -> Result<Ready, Stop>
+    ensures ready { IfOk result (IsReady (asked_of order)) }
+    ensures writes { Writes (head_of (asked_of order)) result
         (K.faults out.old) (K.faults out.new) (K.held out.old) (K.held out.new) }
-    ensures count { IfOk result (λ count. count ≡ days_undecided (found_in ready.old)) }
 {
+    let Ok(ready) = prepare(alloc, order) else {
+        return Err(Stop::NoMemory);
+    };
     match write_all(out, &ready.head) {
-        Ok(()) => search_days(alloc, &mut ready.sky, &ready.days, out),
+        Ok(()) => Ok(ready),
         Err(_) => Err(Stop::WriteFault),
     }
 }
 
-/// Writes the last line of a table of so many days and undecided entries.
-pub fn write_end<K: Sink>(alloc: Global, days: u32, undecided: u32, out: &mut K) -> Result<(), Stop>
-    ensures { Writes (end_line days undecided) result
+/// Writes the last line of a table of so many days and undecided entries; answers how many these are.
+pub fn write_end<K: Sink>(
+    alloc: Global,
+    days: u32,
+    undecided: u32,
+    out: &mut K,
+) -> Result<u32, Stop>
+    ensures writes { Writes (end_line days undecided) result
         (K.faults out.old) (K.faults out.new) (K.held out.old) (K.held out.new) }
+    ensures count { IfOk result (λ count. count ≡ undecided) }
 {
     let Ok(line) = end_line(alloc, days, undecided) else {
         return Err(Stop::NoMemory);
     };
-    match write_all(out, &line) {
-        Ok(()) => Ok(()),
-        Err(_) => Err(Stop::WriteFault),
-    }
+    write_text(out, &line, undecided)
 }
 
 /// Writes the table of an order; answers how many of its entries are undecided.
@@ -142,16 +147,15 @@ pub fn write_table<K: Sink>(alloc: Global, order: Order, out: &mut K) -> Result<
     ensures count { IfOk result (λ count. count ≡ undecided (asked_of order)) }
     ensures right { IsRightTable (asked_of order) }
 {
+    order.keeps_the_rule();
     let days = order.days;
-    let Ok(mut ready) = prepare(alloc, order) else {
-        return Err(Stop::NoMemory);
+    let mut ready = match begin_table(alloc, order, out) {
+        Ok(ready) => ready,
+        Err(stop) => return Err(stop),
     };
-    let undecided = match write_front(alloc, &mut ready, out) {
+    let undecided = match search_days(alloc, &mut ready.sky, &ready.days, out) {
         Ok(undecided) => undecided,
         Err(stop) => return Err(stop),
     };
-    match write_end(alloc, days, undecided, out) {
-        Ok(()) => Ok(undecided),
-        Err(stop) => Err(stop),
-    }
+    write_end(alloc, days, undecided, out)
 }

@@ -22,9 +22,10 @@ use Rattle.cell_judge.proofs.ExtentLemmas.{districts_lie_in_roots_over_them}
 use Rattle.district_set.specs.Joins.{join_entries}
 use Rattle.district_set.specs.JoinLaws as join
 use Rattle.district_set.proofs.JoinLemmas.{joins_are_right}
-use Rattle.order_reader.specs.Asked.{Asked}
-use Rattle.order_reader.specs.Late.{interval_on}
-use Rattle.order_reader.specs.Offsets.{IsOffset, first_day, last_day}
+use Rattle.order_rule.specs.Asked.{Asked}
+use Rattle.order_rule.specs.Late.{interval_on}
+use Rattle.order_rule.specs.Offsets.{IsOffset, first_day, last_day}
+use Rattle.order_rule.specs.Rule.{IsOrder}
 use Rattle.order_table.specs.Days.{DayRows, NightRows, day_with, days_from, night_on, noon_on, rows_on}
 use Rattle.order_table.specs.RightTable.{IsRightEntry, scene_of}
 use Rattle.order_table.specs.Table.{DayTable, night_found, night_rows_in, rows_in}
@@ -229,20 +230,10 @@ sets_are_right s is =
       right = All-from_recursion (IsRightDay s is) (set_of_trees s) days.1;
     }
 
-pub set_is_right : (set : SetOrder) → IsRightSet (asked_of set)
-set_is_right set =
+pub set_is_right : (set : SetOrder) → IsOrder (asked_of set).whole → IsRightSet (asked_of set)
+set_is_right set is =
     sets_are_right (asked_of set) (record {
-      order = record {
-        not_early = set.whole.not_early;
-        not_late = set.whole.not_late;
-        some_days = set.whole.some_days;
-        few_days = set.whole.few_days;
-        known_zone = set.whole.known_zone;
-        offset_each = set.whole.offset_each;
-        low = set.whole.low;
-        late_in_range = set.whole.late_in_range;
-        sound = set.whole.sound;
-      };
+      order = is;
       no_rule = set.no_rule;
       parts = set.are_parts;
     })

@@ -16,9 +16,9 @@ use Rattle.district_set.specs.Lawful.{each}
 use Rattle.district_set.specs.Sets.{AreAlike, IsAlike, judge_at, set_content}
 use Rattle.district_set.proofs.SetLemmas.{own_trees}
 use Rattle.method_table.specs.Row.{Row}
+use Rattle.order_table.specs.Made.{rows_of}
 use Rattle.order_table.specs.Trees.{entries_of, entry_at}
 use Rattle.order_table.specs.declared.day.Day.{Day}
-use Rattle.worker_table.specs.Entries.{rows_on}
 use Rattle.set_table.specs.Made.{HaveOneRoot, entries_on_days, entries_over, first_root}
 use Rattle.set_table.specs.Searches.{entries_by, judge_over, judges_over}
 
@@ -76,11 +76,11 @@ found_on_day : (rows : List Row) (skies : List Sky) → map entries_by (map (jud
 found_on_day rows [] = refl
 found_on_day rows (sky ∷ rest) = ap₂ (λ (e : List Entry) (es : List (List Entry)). e ∷ es) (entries_of_judge rows sky) (found_on_day rows rest)
 
-pub found_on_days : (skies : List Sky) (days : List Day) → map entries_by (judges_over skies (map rows_on days)) ≡ entries_on_days skies days
+pub found_on_days : (skies : List Sky) (days : List Day) → map entries_by (judges_over skies (map rows_of days)) ≡ entries_on_days skies days
 found_on_days skies [] = refl
 found_on_days skies (day ∷ days) =
-    map-append entries_by (map (judge_over (rows_on day)) skies) (judges_over skies (map rows_on days))
-    ∙ ap₂ (λ (x y : List (List Entry)). x ++ y) (found_on_day (rows_on day) skies) (found_on_days skies days)
+    map-append entries_by (map (judge_over (rows_of day)) skies) (judges_over skies (map rows_of days))
+    ∙ ap₂ (λ (x y : List (List Entry)). x ++ y) (found_on_day (rows_of day) skies) (found_on_days skies days)
 
 -- the judges of a search for these days
 pub record AreJudges (skies : List Sky) (days : List Day) (judges : List Content) : Type 0 where
@@ -94,10 +94,10 @@ some_product zero n h k = absurd (omega (arith, h))
 some_product (suc m) n h k = omega (arith, k)
 
 pub judges_are : (skies : List Sky) (days : List Day) (judged : List days_sky.Day) (judges : List Content) → HaveOneRoot skies → 1 ≤ length skies → 1 ≤ length days →
-    length days * length skies ≤ 64 → map rows_of_day judged ≡ map rows_on days → judges ≡ judges_over skies (map rows_of_day judged) → AreJudges skies days judges
+    length days * length skies ≤ 64 → map rows_of_day judged ≡ map rows_of days → judges ≡ judges_over skies (map rows_of_day judged) → AreJudges skies days judges
 judges_are skies days judged judges one_root some some_days few same is =
     let count : length judges ≡ length days * length skies =
-    ap length is ∙ count_of_judges skies (map rows_of_day judged) ∙ ap (λ (n : ℕ). n * length skies) (ap length same ∙ length-map days rows_on) in
+    ap length is ∙ count_of_judges skies (map rows_of_day judged) ∙ ap (λ (n : ℕ). n * length skies) (ap length same ∙ length-map days rows_of) in
     record {
       some = rw count (some_product (length days) (length skies) some_days some);
       few = rw count few;

@@ -4,8 +4,8 @@ use Rattle.cell_judge.specs.declared.sky.Sky.{Sky}
 use Rattle.cell_split.specs.declared.cell.Cell.{Cell}
 use Rattle.cell_split.specs.declared.verdict.Entry.{Entry}
 use Rattle.cell_split.specs.Cells.{root_at}
-use Rattle.method_table.specs.Row.{Row, row_of}
-use Rattle.order_table.specs.Made.{day_of}
+use Rattle.method_table.specs.Row.{Row}
+use Rattle.order_table.specs.Made.{day_of, rows_of}
 use Rattle.order_table.specs.Trees.{entries_of}
 use Rattle.order_table.specs.declared.day.Day.{Day}
 use Rattle.region.specs.Rings.{Polygon}
@@ -38,7 +38,7 @@ abbrev pub entries_over : List Sky → List Row → List (List Entry)
 entries_over skies rows = map (λ sky. entries_of sky.sun sky.district sky.root rows) skies
 
 abbrev pub entries_on : List Sky → Day → List (List Entry)
-entries_on skies day = entries_over skies (map row_of day.problems)
+entries_on skies day = entries_over skies (rows_of day)
 
 -- of several days, day by day
 abbrev pub entries_on_days : List Sky → List Day → List (List Entry)

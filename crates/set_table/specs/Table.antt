@@ -3,7 +3,7 @@ use Rattle.std.specs.Prelude.{ℕ, ◌+◌, List, [], ◌∷◌, ◌++◌, None,
 use Rattle.cell_split.specs.declared.verdict.Entry.{Entry}
 use Rattle.cell_split.specs.declared.verdict.Entry.TheVariants.{Whole}
 use Rattle.district_set.specs.Joins.{join_entries}
-use Rattle.order_reader.specs.Asked.{Asked}
+use Rattle.order_rule.specs.Asked.{Asked}
 use Rattle.order_table.specs.Days.{DayRows}
 use Rattle.order_table.specs.Table.{DayTable, day_found, day_text, days_undecided}
 use Rattle.order_table.specs.Trees.{columns}

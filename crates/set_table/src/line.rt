@@ -1,10 +1,10 @@
 // The lines of a set that a table of one district hasn't.
 ghost use Rattle.std.specs.Prelude.{◌≡◌, ◌++◌, codes, decimal, IfOk};
-ghost use Rattle.order_reader.specs.Asked.{asked_of};
+ghost use Rattle.order_rule.specs.Asked.{asked_of};
 ghost use Rattle.set_table.specs.Table.{district_line, order_line, set_end_line, set_head};
 
 use no_memory::NoMemory;
-use order_reader::Order;
+use order_rule::Order;
 use order_table::head_of;
 use std::alloc::Global;
 

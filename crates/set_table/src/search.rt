@@ -2,51 +2,52 @@
 ghost use Rattle.std.specs.Prelude.{◌≡◌, ◌*◌, ◌<◌, ◌≤◌, ◌++◌, All, IfOk, OnOk, length, map};
 ghost use Rattle.days_sky.specs.Days.{rows_of_day};
 ghost use Rattle.district_set.specs.Sets.{AreAlike, judge_at, set_content};
-ghost use Rattle.method_table.specs.Row.{row_of};
 ghost use Rattle.order_table.specs.Trees.{entry_at};
 ghost use Rattle.set_table.specs.Made.{HaveOneRoot, entries_on_days};
 ghost use Rattle.set_table.specs.Searches.{IsFound, entries_by, judge_of, judge_over, judges_over};
-ghost use Rattle.steal_pool.specs.Harvests.{IsHarvest};
+ghost use Rattle.steal_pool.specs.Found.{AreAllTopWords};
 
 use cell_judge::Sky;
 use cell_split::{Entry, Judge};
-use covering::entry_of;
+use covering::entry_of_ranks;
 use days_sky::DaysSky;
 use district_set::SetSky;
 use no_memory::NoMemory;
-use order_table::Day;
+use order_table::{Day, judged_days};
+use plain_search::TopRanks;
 use std::alloc::Global;
 use std::slice;
 use std::sync::Wait;
 use std::thread::Threads;
-use steal_pool::{Gate, Harvest, search};
+use steal_pool::{Gate, search_ranks};
 
-/// The entry of a problem of judge `i`, from the harvest of a search for all.
-fn entry_in<J: Judge>(set: &SetSky<J>, harvest: &Harvest, i: u32, column: u32) -> Entry
-    requires harvest { IsHarvest (set_content (map J.content set.now.skies.now)) harvest.now.refuted harvest.now.leaves }
+/// The entry of a problem of judge `i`, from the ranks that a search for all found.
+fn entry_in<J: Judge>(set: &SetSky<J>, ranks: &[TopRanks], i: u32, column: u32) -> Entry
+    requires ranks { AreAllTopWords (set_content (map J.content set.now.skies.now)) ranks.now }
     requires within { i < length set.now.skies.now }
     requires column { column < 7 }
     ensures value { result ≡ entry_at (judge_at (map J.content set.now.skies.now) i) column }
     ensures found { IsFound result }
 {
-    entry_of(set, harvest, 7 * i + column)
+    let k = 7 * i + column;
+    entry_of_ranks(set, k, ranks[k as usize])
 }
 
 /// The entries of judge `i`.
-fn entries_in<J: Judge>(set: &SetSky<J>, harvest: &Harvest, i: u32) -> [Entry; 7]
-    requires harvest { IsHarvest (set_content (map J.content set.now.skies.now)) harvest.now.refuted harvest.now.leaves }
+fn entries_in<J: Judge>(set: &SetSky<J>, ranks: &[TopRanks], i: u32) -> [Entry; 7]
+    requires ranks { AreAllTopWords (set_content (map J.content set.now.skies.now)) ranks.now }
     requires within { i < length set.now.skies.now }
     ensures value { result ≡ entries_by (judge_at (map J.content set.now.skies.now) i) }
     ensures found { All IsFound result }
 {
     [
-        entry_in(set, harvest, i, 0),
-        entry_in(set, harvest, i, 1),
-        entry_in(set, harvest, i, 2),
-        entry_in(set, harvest, i, 3),
-        entry_in(set, harvest, i, 4),
-        entry_in(set, harvest, i, 5),
-        entry_in(set, harvest, i, 6),
+        entry_in(set, ranks, i, 0),
+        entry_in(set, ranks, i, 1),
+        entry_in(set, ranks, i, 2),
+        entry_in(set, ranks, i, 3),
+        entry_in(set, ranks, i, 4),
+        entry_in(set, ranks, i, 5),
+        entry_in(set, ranks, i, 6),
     ]
 }
 
@@ -54,17 +55,17 @@ fn entries_in<J: Judge>(set: &SetSky<J>, harvest: &Harvest, i: u32) -> [Entry; 7
 fn entries_of_judges<J: Judge>(
     alloc: Global,
     set: &SetSky<J>,
-    harvest: &Harvest,
+    ranks: &[TopRanks],
     count: u32,
 ) -> Result<Vec<[Entry; 7]>, NoMemory>
-    requires harvest { IsHarvest (set_content (map J.content set.now.skies.now)) harvest.now.refuted harvest.now.leaves }
+    requires ranks { AreAllTopWords (set_content (map J.content set.now.skies.now)) ranks.now }
     requires count { count ≡ length set.now.skies.now }
     ensures entries { IfOk result (λ found. found.items ≡ map entries_by (map J.content set.now.skies.now)) }
     ensures found { IfOk result (λ found. All (All IsFound) found.items) }
 {
     let mut found = Vec::new(alloc);
     for i in 0..count {
-        found.push(entries_in(set, harvest, i))?;
+        found.push(entries_in(set, ranks, i))?;
     }
     Ok(found)
 }
@@ -86,19 +87,8 @@ fn search_judges<R: Threads + Wait + Sync, J: Judge + Sync, G: Gate + Sync>(
     ensures found { IfOk result (λ found. All (All IsFound) found.items) }
 {
     let set = SetSky::new(judges);
-    let harvest = search(rt, alloc, &set, workers, gate)?;
-    entries_of_judges(alloc, &set, &harvest, judges.len() as u32)
-}
-
-/// The days as the judge of several days has them.
-fn judged_days(alloc: Global, days: &[Day]) -> Result<Vec<days_sky::Day>, NoMemory>
-    ensures { IfOk result (λ judged. map rows_of_day judged.items ≡ map (λ day. map row_of day.problems) days.now) }
-{
-    let mut judged = Vec::new(alloc);
-    for day in days {
-        judged.push(days_sky::Day::new(day.problems))?;
-    }
-    Ok(judged)
+    let ranks = search_ranks(rt, alloc, &set, workers, gate)?;
+    entries_of_judges(alloc, &set, &ranks, judges.len() as u32)
 }
 
 /// Puts the judge of a day over each district behind the others.

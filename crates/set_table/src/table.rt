@@ -220,6 +220,7 @@ pub fn write_set<R: Threads + Wait + Sync, K: Sink, G: Gate + Sync>(
     ensures count { IfOk result (λ count. count ≡ undecided (asked_of set)) }
     ensures right { IsRightSet (asked_of set) }
 {
+    set.whole.keeps_the_rule();
     let days = set.whole.days;
     let districts = set.parts.count();
     let Ok(ready) = prepare(alloc, set) else {

@@ -5,5 +5,5 @@
 mod search;
 mod table;
 
-pub use search::search_days;
+pub use search::{end_of_search, search_days};
 pub use table::write_table;

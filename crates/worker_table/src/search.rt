@@ -2,82 +2,73 @@
 ghost use Rattle.std.specs.Prelude.{◌≡◌, ◌*◌, ◌<◌, ◌≤◌, ◌^◌, All, IfOk, length, map, slice_index_or};
 ghost use Rattle.cell_judge.specs.Skies.{sky_content};
 ghost use Rattle.days_sky.specs.Days.{days_content, rows_of_day};
-ghost use Rattle.method_table.specs.Row.{row_of};
+ghost use Rattle.order_table.specs.Made.{rows_of};
 ghost use Rattle.order_table.specs.Printing.{IsPrintable};
 ghost use Rattle.order_table.specs.Trees.{entry_at};
-ghost use Rattle.steal_pool.specs.Harvests.{IsHarvest};
-ghost use Rattle.worker_table.specs.Entries.{entries_on, rows_on};
+ghost use Rattle.steal_pool.specs.Found.{AreAllTopWords};
+ghost use Rattle.worker_table.specs.Entries.{entries_on};
 
 use cell_judge::Sky;
 use cell_split::Entry;
-use covering::entry_of;
+use covering::entry_of_ranks;
 use days_sky::DaysSky;
 use no_memory::NoMemory;
-use order_table::Day;
+use order_table::{Day, judged_days};
+use plain_search::TopRanks;
 use std::alloc::Global;
 use std::sync::Wait;
 use std::thread::Threads;
-use steal_pool::{Gate, Harvest, search};
+use steal_pool::{Gate, search_ranks};
 
-/// The days as the judge of several days has them.
-fn judged_days(alloc: Global, days: &[Day]) -> Result<Vec<days_sky::Day>, NoMemory>
-    ensures { IfOk result (λ judged. map rows_of_day judged.items ≡ map rows_on days.now) }
-{
-    let mut judged = Vec::new(alloc);
-    for day in days {
-        judged.push(days_sky::Day::new(day.problems))?;
-    }
-    Ok(judged)
-}
-
-/// The entry of a column on day `i`, from the harvest of a search for all days.
-fn entry_in(sky: &DaysSky, harvest: &Harvest, i: u32, day: &Day, column: u32) -> Entry
-    requires harvest { IsHarvest (days_content sky.now.sky.now.sun sky.now.sky.now.district (map rows_of_day sky.now.days.now) sky.now.sky.now.root) harvest.now.refuted harvest.now.leaves }
+/// The entry of a column on day `i`, from the ranks that a search for all days found.
+fn entry_in(sky: &DaysSky, ranks: &[TopRanks], i: u32, day: &Day, column: u32) -> Entry
+    requires ranks { AreAllTopWords (days_content sky.now.sky.now.sun sky.now.sky.now.district (map rows_of_day sky.now.days.now) sky.now.sky.now.root) ranks.now }
     requires within { i < length sky.now.days.now }
-    requires own { slice_index_or (map rows_of_day sky.now.days.now) i (rows_on day.now) ≡ rows_on day.now }
+    requires own { slice_index_or (map rows_of_day sky.now.days.now) i (rows_of day.now) ≡ rows_of day.now }
     requires column { column < 7 }
-    ensures value { result ≡ entry_at (sky_content sky.now.sky.now.sun sky.now.sky.now.district (rows_on day.now) sky.now.sky.now.root) column }
+    ensures value { result ≡ entry_at (sky_content sky.now.sky.now.sun sky.now.sky.now.district (rows_of day.now) sky.now.sky.now.root) column }
     ensures printable { IsPrintable result }
 {
-    entry_of(sky, harvest, 7 * i + column)
+    let k = 7 * i + column;
+    entry_of_ranks(sky, k, ranks[k as usize])
 }
 
 /// The entries of day `i`.
 #[tactic(auto, unfolding(order_table::specs::Trees::entries_of))]
-fn entries_in(sky: &DaysSky, harvest: &Harvest, i: u32, day: &Day) -> [Entry; 7]
-    requires harvest { IsHarvest (days_content sky.now.sky.now.sun sky.now.sky.now.district (map rows_of_day sky.now.days.now) sky.now.sky.now.root) harvest.now.refuted harvest.now.leaves }
+fn entries_in(sky: &DaysSky, ranks: &[TopRanks], i: u32, day: &Day) -> [Entry; 7]
+    requires ranks { AreAllTopWords (days_content sky.now.sky.now.sun sky.now.sky.now.district (map rows_of_day sky.now.days.now) sky.now.sky.now.root) ranks.now }
     requires within { i < length sky.now.days.now }
-    requires own { slice_index_or (map rows_of_day sky.now.days.now) i (rows_on day.now) ≡ rows_on day.now }
+    requires own { slice_index_or (map rows_of_day sky.now.days.now) i (rows_of day.now) ≡ rows_of day.now }
     ensures value { result ≡ entries_on sky.now.sky.now.sun sky.now.sky.now.district sky.now.sky.now.root day.now }
     ensures printable { All IsPrintable result }
 {
     [
-        entry_in(sky, harvest, i, day, 0),
-        entry_in(sky, harvest, i, day, 1),
-        entry_in(sky, harvest, i, day, 2),
-        entry_in(sky, harvest, i, day, 3),
-        entry_in(sky, harvest, i, day, 4),
-        entry_in(sky, harvest, i, day, 5),
-        entry_in(sky, harvest, i, day, 6),
+        entry_in(sky, ranks, i, day, 0),
+        entry_in(sky, ranks, i, day, 1),
+        entry_in(sky, ranks, i, day, 2),
+        entry_in(sky, ranks, i, day, 3),
+        entry_in(sky, ranks, i, day, 4),
+        entry_in(sky, ranks, i, day, 5),
+        entry_in(sky, ranks, i, day, 6),
     ]
 }
 
-/// The entries of all days, from the harvest of a search for them.
+/// The entries of all days, from the ranks that a search for them found.
 fn entries_of_days(
     alloc: Global,
     sky: &DaysSky,
-    harvest: &Harvest,
+    ranks: &[TopRanks],
     days: &[Day],
 ) -> Result<Vec<[Entry; 7]>, NoMemory>
-    requires harvest { IsHarvest (days_content sky.now.sky.now.sun sky.now.sky.now.district (map rows_of_day sky.now.days.now) sky.now.sky.now.root) harvest.now.refuted harvest.now.leaves }
-    requires own { map rows_of_day sky.now.days.now ≡ map rows_on days.now }
+    requires ranks { AreAllTopWords (days_content sky.now.sky.now.sun sky.now.sky.now.district (map rows_of_day sky.now.days.now) sky.now.sky.now.root) ranks.now }
+    requires own { map rows_of_day sky.now.days.now ≡ map rows_of days.now }
     requires short { length days.now < 2 ^ 32 }
     ensures entries { IfOk result (λ found. found.items ≡ map (entries_on sky.now.sky.now.sun sky.now.sky.now.district sky.now.sky.now.root) days.now) }
     ensures printable { IfOk result (λ found. All (All IsPrintable) found.items) }
 {
     let mut found = Vec::new(alloc);
     for (i, day) in days.iter().enumerate() {
-        found.push(entries_in(sky, harvest, i as u32, day))?;
+        found.push(entries_in(sky, ranks, i as u32, day))?;
     }
     Ok(found)
 }
@@ -99,6 +90,24 @@ pub fn search_days<R: Threads + Wait + Sync, G: Gate + Sync>(
 {
     let judged = judged_days(alloc, days)?;
     let all_days = DaysSky::new(sky, &judged);
-    let harvest = search(rt, alloc, &all_days, workers, gate)?;
-    entries_of_days(alloc, &all_days, &harvest, days)
+    let ranks = search_ranks(rt, alloc, &all_days, workers, gate)?;
+    entries_of_days(alloc, &all_days, &ranks, days)
+}
+
+/// How many days the first search of a table serves: so few that its first lines come long before its last day is searched.
+const FIRST_DAYS: usize = 8;
+
+/// Where the search ends that begins with day `begun` of so many: the second one serves all that are left, since starting
+/// workers costs as much as searching some days.
+pub fn end_of_search(begun: usize, days: usize) -> usize
+    requires within { begun < days }
+    requires few { days ≤ 366 }
+    ensures later { begun < result }
+    ensures within { result ≤ days }
+{
+    if begun == 0 {
+        days.min(FIRST_DAYS)
+    } else {
+        days
+    }
 }

@@ -1,30 +1,25 @@
 // The table of an order, some of its days at a time.
 ghost use Rattle.std.specs.Prelude.{◌≡◌, ◌≤◌, ◌*◌, All, IfOk, length, map};
-ghost use Rattle.order_reader.specs.Asked.{asked_of};
+ghost use Rattle.order_rule.specs.Asked.{asked_of};
 ghost use Rattle.order_table.specs.Made.{searched};
 ghost use Rattle.order_table.specs.Printing.{IsPrintable};
-ghost use Rattle.order_table.specs.Ready.{found_in, front_of};
 ghost use Rattle.order_table.specs.RightTable.{IsRightTable};
 ghost use Rattle.order_table.specs.Table.{days_text, days_undecided};
 ghost use Rattle.order_table.specs.Trees.{table_of, undecided};
 ghost use Rattle.outcome.specs.Writing.{Writes};
 ghost use Rattle.worker_table.specs.Entries.{entries_on};
 
-use crate::search::search_days;
+use crate::search::{end_of_search, search_days};
 use cell_judge::Sky;
 use cell_split::Entry;
-use order_reader::Order;
-use order_table::{Day, Ready, prepare, write_end, write_searched};
+use order_rule::Order;
+use order_table::{Day, begin_table, write_end, write_searched};
 use outcome::Stop;
-use source_sink::{Sink, write_all};
+use source_sink::Sink;
 use std::alloc::Global;
 use std::sync::Wait;
 use std::thread::Threads;
 use steal_pool::Gate;
-
-/// How many days one search serves: so many that starting its workers is a small part of its work, and so few that the
-/// first lines of a year's table come long before its last day is searched.
-const DAYS_TOGETHER: usize = 8;
 
 /// Writes the lines of these days with the entries of their columns; answers how many of these are undecided. The nights of
 /// the days are searched here, each before its day is written.
@@ -104,7 +99,7 @@ fn write_all_days<R: Threads + Wait + Sync, K: Sink, G: Gate + Sync>(
     let mut undecided = 0;
     let mut begun = 0;
     while begun < days.len() {
-        let end = days.len().min(begun + DAYS_TOGETHER);
+        let end = end_of_search(begun, days.len());
         match write_together(rt, alloc, sky, &days[begun..end], workers, gate, out) {
             Ok(count) => undecided += count,
             Err(stop) => return Err(stop),
@@ -112,28 +107,6 @@ fn write_all_days<R: Threads + Wait + Sync, K: Sink, G: Gate + Sync>(
         begun = end;
     }
     Ok(undecided)
-}
-
-/// Writes the head, and searches and writes the days behind it; answers how many of their entries are undecided.
-fn write_front<R: Threads + Wait + Sync, K: Sink, G: Gate + Sync>(
-    rt: &R,
-    alloc: Global,
-    ready: &mut Ready,
-    workers: u32,
-    gate: &G,
-    out: &mut K,
-) -> Result<u32, Stop>
-    requires some { 1 ≤ workers }
-    requires few_workers { workers ≤ 16 }
-    requires few { length ready.old.days.items ≤ 366 }
-    ensures writes { Writes (front_of ready.old) result
-        (K.faults out.old) (K.faults out.new) (K.held out.old) (K.held out.new) }
-    ensures count { IfOk result (λ count. count ≡ days_undecided (found_in ready.old)) }
-{
-    match write_all(out, &ready.head) {
-        Ok(()) => write_all_days(rt, alloc, &mut ready.sky, &ready.days, workers, gate, out),
-        Err(_) => Err(Stop::WriteFault),
-    }
 }
 
 /// Writes the table of an order, searched by 1 to 16 workers; answers how many of its entries are undecided.
@@ -152,16 +125,23 @@ pub fn write_table<R: Threads + Wait + Sync, K: Sink, G: Gate + Sync>(
     ensures count { IfOk result (λ count. count ≡ undecided (asked_of order)) }
     ensures right { IsRightTable (asked_of order) }
 {
+    order.keeps_the_rule();
     let days = order.days;
-    let Ok(mut ready) = prepare(alloc, order) else {
-        return Err(Stop::NoMemory);
+    let mut ready = match begin_table(alloc, order, out) {
+        Ok(ready) => ready,
+        Err(stop) => return Err(stop),
     };
-    let undecided = match write_front(rt, alloc, &mut ready, workers, gate, out) {
+    let undecided = match write_all_days(
+        rt,
+        alloc,
+        &mut ready.sky,
+        &ready.days,
+        workers,
+        gate,
+        out,
+    ) {
         Ok(undecided) => undecided,
         Err(stop) => return Err(stop),
     };
-    match write_end(alloc, days, undecided, out) {
-        Ok(()) => Ok(undecided),
-        Err(stop) => Err(stop),
-    }
+    write_end(alloc, days, undecided, out)
 }

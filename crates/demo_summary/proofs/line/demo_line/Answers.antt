@@ -1,5 +1,5 @@
 use Rattle.std.proofs.Common.{◌≡◌, ◌∙◌, ◌++◌, FitsSigned, refl, rules, to_z-of_z, w32}
-use Rattle.order_reader.specs.Line.{span_text, words_text}
+use Rattle.order_text.specs.Line.{span_text, words_text}
 use Rattle.year_table.specs.declared.zone.Zone.TheVariants.{Fixed}
 use Rattle.demo_summary.proofs.LineLemmas.{body_is}
 use Rattle.demo_summary.proofs.line.demo_line.Goals as goal

@@ -1,7 +1,7 @@
 use Rattle.std.proofs.Common.{pos, get_or}
 use Rattle.std.proofs.lemmas.Option.{slice_get-get_or}
-use Rattle.order_reader.specs.Line.{position_text}
-use Rattle.order_reader.proofs.LineLemmas.{next_item, last_item}
+use Rattle.order_text.specs.Line.{position_text}
+use Rattle.order_text.proofs.LineLemmas.{next_item, last_item}
 use Rattle.demo_summary.proofs.line.push_positions.Goals as goal
 
 pub loop-i-preserved : goal.loop-i-preserved

@@ -1,5 +1,5 @@
 use Rattle.std.proofs.Common.{◌∙◌}
-use Rattle.order_reader.specs.Asked.{asked_of}
+use Rattle.order_rule.specs.Asked.{asked_of}
 use Rattle.demo_summary.proofs.DemoLemmas.{read_is}
 use Rattle.demo_summary.proofs.order.demo_order.Goals as goal
 

@@ -1,5 +1,5 @@
 use Rattle.std.proofs.Common.{◌∙◌, ap, arith, length}
-use Rattle.order_reader.specs.Asked.{Asked, asked_of}
+use Rattle.order_rule.specs.Asked.{Asked, asked_of}
 use Rattle.order_table.proofs.DayLemmas.{days_made}
 use Rattle.order_table.proofs.TableLemmas.{ready_is}
 use Rattle.order_table.specs.Trees.{table_of_trees}

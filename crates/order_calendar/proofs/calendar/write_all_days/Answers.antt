@@ -16,12 +16,12 @@ returns-in-Err-clause-writes g c =
     let found = searched c.args.sky.now.sun c.args.sky.now.district c.args.sky.now.root in
     let days = c.args.days.now in
     let begun = c.loop-begun.begun in
-    let end = c.min-end.result in
+    let end = c.end_of_search-end.result in
     let before = take begun days in
     let here = take (end - begun) (drop begun days) in
     let text : List Day → List ℕ = λ ds. days_text s (map found ds) in
     stopped {X = ℕ} (text before) (text here) (text (drop end days)) _ c.in-Err.stop _ _ _ _ _ _
-    (ap text (days_around days begun end (omega (arith, c.min-end.ensures, c.loop-begun-test.true)))
+    (ap text (days_around days begun end (omega (arith, c.end_of_search-end.ensures.later, c.end_of_search-end.ensures.within, c.loop-begun-test.true)))
     ∙ text_of_both s found before (here ++ drop end days) ∙ ap (λ t. text before ++ t) (text_of_both s found here (drop end days)))
     c.loop-begun.invariant.written c.loop-begun.invariant.later c.in-Err.ensures.writes
 
@@ -34,20 +34,20 @@ loop-begun-preserved g c =
     let found = searched sun polygons root in
     let days = c.args.days.now in
     let begun = c.loop-begun.begun in
-    let end = c.min-end.result in
+    let end = c.end_of_search-end.result in
     let before = take begun days in
     let here = take (end - begun) (drop begun days) in
     let text : List Day → List ℕ = λ ds. days_text s (map found ds) in
     let count : List Day → ℕ = λ ds. days_undecided (map found ds) in
-    let ordered : begun ≤ end = omega (arith, c.min-end.ensures, c.loop-begun-test.true) in
+    let ordered : begun ≤ end = omega (arith, c.end_of_search-end.ensures.later, c.end_of_search-end.ensures.within, c.loop-begun-test.true) in
     let sum = days_between days begun end ordered in
     let done = c.in-Ok.ensures in
     record {
       count =
           ap (λ n. n + c.in-Ok.count) c.loop-begun.invariant.count ∙ ap (λ n. count before + n) done.count
           ∙ sym (ap count sum ∙ undecided_of_both sun polygons root before here);
-      few = omega (arith, done.few, c.loop-begun.invariant.few, length-take-le (end - begun) (drop begun days) (omega (arith, length-drop begun days, c.min-end.ensures)), ordered);
-      within = omega (arith, c.min-end.ensures);
+      few = omega (arith, done.few, c.loop-begun.invariant.few, length-take-le (end - begun) (drop begun days) (omega (arith, length-drop begun days, c.end_of_search-end.ensures.later, c.end_of_search-end.ensures.within)), ordered);
+      within = omega (arith, c.end_of_search-end.ensures.later, c.end_of_search-end.ensures.within);
       later = omega (arith, done.writes.later, c.loop-begun.invariant.later);
       written = adds_more _ _ _ (text before) (text here) _ c.loop-begun.invariant.written done.writes.whole (ap text sum ∙ text_of_both s found before here);
     }

@@ -1,9 +1,9 @@
 use Rattle.std.proofs.Common.{◌≡◌, ◌∙◌, ◌++◌, ℕ, [], IfOk, arith, refl, subst}
 use Rattle.ical_text.specs.Calendar.{head_text}
-use Rattle.order_reader.specs.Asked.{asked_of}
+use Rattle.order_rule.specs.Asked.{asked_of}
 use Rattle.order_table.specs.Ready.{found_in}
 use Rattle.order_table.proofs.DayLemmas.{days_made}
-use Rattle.order_table.proofs.RightLemmas.{order_is_right}
+use Rattle.order_table.proofs.RightLemmas.{tables_are_right}
 use Rattle.order_table.proofs.TableLemmas.{count_is}
 use Rattle.outcome.proofs.Streams.{adds_nothing, stopped, then_writes}
 use Rattle.order_calendar.specs.Calendar.{calendar_of}
@@ -12,10 +12,10 @@ use Rattle.order_calendar.proofs.PieceLemmas.{calendar_is}
 use Rattle.order_calendar.proofs.calendar.write_calendar.Goals as goal
 
 pub returns-in_default-clause-right : goal.returns-in_default-clause-right
-returns-in_default-clause-right g c = order_is_right c.args.order
+returns-in_default-clause-right g c = tables_are_right (asked_of c.args.order) c.keeps_the_rule.ensures
 
 pub returns-in_default-prepare-clause-right : goal.returns-in_default-prepare-clause-right
-returns-in_default-prepare-clause-right g c = order_is_right c.args.order
+returns-in_default-prepare-clause-right g c = tables_are_right (asked_of c.args.order) c.keeps_the_rule.ensures
 
 pub write_front-requires-clause-few : goal.write_front-requires-clause-few
 write_front-requires-clause-few g c =
@@ -32,7 +32,7 @@ returns-in-Err-clause-writes g c =
     (calendar_is o ready s _ c.in-Ok-prepare.ensures c.in-Ok.ensures refl) (adds_nothing _) (omega arith) c.in-Err.ensures.writes
 
 pub returns-in-Err-clause-right : goal.returns-in-Err-clause-right
-returns-in-Err-clause-right g c = order_is_right c.args.order
+returns-in-Err-clause-right g c = tables_are_right (asked_of c.args.order) c.keeps_the_rule.ensures
 
 pub returns-clause-writes : goal.returns-clause-writes
 returns-clause-writes g c =
@@ -51,4 +51,4 @@ returns-clause-count g c =
     (count_is o c.in-Ok-prepare.ready c.in-Ok-write_front.undecided c.in-Ok-prepare.ensures c.in-Ok-write_front.ensures.count) c.write_text.ensures.count
 
 pub returns-clause-right : goal.returns-clause-right
-returns-clause-right g c = order_is_right c.args.order
+returns-clause-right g c = tables_are_right (asked_of c.args.order) c.keeps_the_rule.ensures

@@ -3,7 +3,7 @@ use Rattle.std.proofs.lemmas.Int.{to_z-of_z}
 use Rattle.std.specs.Prelude.{option_map}
 use Rattle.method_table.specs.Row.{row_of}
 use Rattle.order_table.specs.Made.{night_of}
-use Rattle.order_reader.specs.Asked.{asked_of}
+use Rattle.order_rule.specs.Asked.{asked_of}
 use Rattle.order_table.proofs.DayLemmas.{day_is_at}
 use Rattle.order_table.proofs.ready.day_at.Goals as goal
 

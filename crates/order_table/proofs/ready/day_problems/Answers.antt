@@ -1,6 +1,6 @@
 use Rattle.std.proofs.Common.{FitsSigned, rules, w32}
 use Rattle.std.proofs.lemmas.Int.{to_z-of_z}
-use Rattle.order_reader.specs.Asked.{asked_of}
+use Rattle.order_rule.specs.Asked.{asked_of}
 use Rattle.order_table.proofs.DayLemmas.{day_limits, interval_known, rows_are}
 use Rattle.order_table.proofs.ready.day_problems.Goals as goal
 

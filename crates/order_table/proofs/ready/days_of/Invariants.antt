@@ -1,6 +1,6 @@
 use Rattle.std.proofs.Common.{◌≡◌, ◌++◌, drop, map, pos}
 use Rattle.std.specs.Prelude.{◌+ℤ◌}
-use Rattle.order_reader.specs.Asked.{asked_of}
+use Rattle.order_rule.specs.Asked.{asked_of}
 use Rattle.order_table.specs.Made.{day_of}
 use Rattle.order_table.specs.Days.{days_from, days_of}
 use Rattle.order_table.proofs.ready.days_of.Given as goal

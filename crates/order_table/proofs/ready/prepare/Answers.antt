@@ -1,5 +1,5 @@
 use Rattle.std.proofs.Common.{arith}
-use Rattle.order_reader.specs.Asked.{asked_of}
+use Rattle.order_rule.specs.Asked.{asked_of}
 use Rattle.order_table.proofs.DayLemmas.{days_made}
 use Rattle.order_table.proofs.ready.prepare.Goals as goal
 

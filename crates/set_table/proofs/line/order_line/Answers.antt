@@ -1,5 +1,5 @@
 use Rattle.std.proofs.Common.{◌≡◌, ◌∙◌, ◌-◌, ap, arith, codes, refl, length}
-use Rattle.order_reader.specs.Asked.{asked_of}
+use Rattle.order_rule.specs.Asked.{asked_of}
 use Rattle.region.specs.Extent.{positions_of}
 use Rattle.year_table.specs.Dates.{date_text}
 use Rattle.year_table.specs.Lines.{height_text, order_text, span_text, sun_text, words_text}

@@ -1,6 +1,6 @@
 use Rattle.std.proofs.Common.{◌∙◌, ◌++◌, ℕ, [], ap, append-nil, arith, length, refl, sym}
 use Rattle.source_sink.proofs.Transfers.{adds_more}
-use Rattle.order_reader.specs.Asked as order
+use Rattle.order_rule.specs.Asked as order
 use Rattle.order_table.specs.Trees.{root_over}
 use Rattle.order_table.proofs.DayLemmas.{days_made}
 use Rattle.outcome.proofs.Streams.{adds_nothing, stopped, written}
@@ -13,7 +13,7 @@ use Rattle.set_table.proofs.RightLemmas.{set_is_right}
 use Rattle.set_table.proofs.table.write_set.Goals as goal
 
 pub returns-in_default-clause-right : goal.returns-in_default-clause-right
-returns-in_default-clause-right g c = set_is_right c.args.set
+returns-in_default-clause-right g c = set_is_right c.args.set c.keeps_the_rule.ensures
 
 pub write_front-requires-clause-some : goal.write_front-requires-clause-some
 write_front-requires-clause-some g c κs within =
@@ -49,7 +49,7 @@ returns-in-Err-clause-writes g c =
     (table_is s ready _ _ c.in-Ok.ensures refl refl) (adds_nothing _) (omega arith) c.in-Err.ensures.writes
 
 pub returns-in-Err-clause-right : goal.returns-in-Err-clause-right
-returns-in-Err-clause-right g c = set_is_right c.args.set
+returns-in-Err-clause-right g c = set_is_right c.args.set c.keeps_the_rule.ensures
 
 pub returns-in-Ok-write_end-clause-writes : goal.returns-in-Ok-write_end-clause-writes
 returns-in-Ok-write_end-clause-writes g c =
@@ -67,7 +67,7 @@ returns-in-Ok-write_end-clause-count g c =
     count_is (asked_of c.args.set) c.in-Ok.ready c.in-Ok-write_front.undecided c.in-Ok.ensures c.in-Ok-write_front.ensures.count
 
 pub returns-in-Ok-write_end-clause-right : goal.returns-in-Ok-write_end-clause-right
-returns-in-Ok-write_end-clause-right g c = set_is_right c.args.set
+returns-in-Ok-write_end-clause-right g c = set_is_right c.args.set c.keeps_the_rule.ensures
 
 pub returns-clause-writes : goal.returns-clause-writes
 returns-clause-writes g c =
@@ -80,4 +80,4 @@ returns-clause-writes g c =
     front.writes.whole front.writes.later (rw (sym c.count-districts.ensures) c.in-Err-write_end.ensures)
 
 pub returns-clause-right : goal.returns-clause-right
-returns-clause-right g c = set_is_right c.args.set
+returns-clause-right g c = set_is_right c.args.set c.keeps_the_rule.ensures

@@ -17,7 +17,7 @@ returns-in-Err-clause-writes g c =
     let root = c.args.sky.now.root in
     let days = c.args.days.now in
     let begun = c.loop-begun.begun in
-    let end = c.min-end.result in
+    let end = c.end_of_search-end.result in
     let before = take begun days in
     let here = take (end - begun) (drop begun days) in
     let text : List Day → List ℕ = λ ds. days_text (map (searched sun polygons root) ds) in
@@ -25,7 +25,7 @@ returns-in-Err-clause-writes g c =
     let P : (Day → DayTable) → Type 0 = λ f. Writes {X = ℕ} (days_text (map f here)) (Err c.in-Err.stop)
     (g.K.Sink.faults c.loop-begun.out) (g.K.Sink.faults c.write_together.new.out) (g.K.Sink.held c.loop-begun.out) (g.K.Sink.held c.write_together.new.out) in
     stopped {X = ℕ} (text before) (text here) (text (drop end days)) _ c.in-Err.stop _ _ _ _ _ _
-    (ap text (days_around days begun end (omega (arith, c.min-end.ensures, c.loop-begun-test.true)))
+    (ap text (days_around days begun end (omega (arith, c.end_of_search-end.ensures.later, c.end_of_search-end.ensures.within, c.loop-begun-test.true)))
     ∙ text_of_both sun polygons root before (here ++ drop end days) ∙ ap (λ t. text before ++ t) (text_of_both sun polygons root here (drop end days)))
     c.loop-begun.invariant.written c.loop-begun.invariant.later (subst P same c.in-Err.ensures.writes)
 
@@ -36,12 +36,12 @@ loop-begun-preserved g c =
     let root = c.args.sky.now.root in
     let days = c.args.days.now in
     let begun = c.loop-begun.begun in
-    let end = c.min-end.result in
+    let end = c.end_of_search-end.result in
     let before = take begun days in
     let here = take (end - begun) (drop begun days) in
     let text : List Day → List ℕ = λ ds. days_text (map (searched sun polygons root) ds) in
     let count : List Day → ℕ = λ ds. days_undecided (map (searched sun polygons root) ds) in
-    let ordered : begun ≤ end = omega (arith, c.min-end.ensures, c.loop-begun-test.true) in
+    let ordered : begun ≤ end = omega (arith, c.end_of_search-end.ensures.later, c.end_of_search-end.ensures.within, c.loop-begun-test.true) in
     let sum = days_between days begun end ordered in
     let same = searched_alike _ _ _ _ _ _ c.loop-begun.invariant.sun c.loop-begun.invariant.district c.loop-begun.invariant.root in
     let found = c.in-Ok.ensures in
@@ -53,8 +53,8 @@ loop-begun-preserved g c =
           ap (λ n. n + c.in-Ok.count) c.loop-begun.invariant.count
           ∙ ap (λ n. count before + n) (found.count ∙ ap (λ (f : Day → DayTable). days_undecided (map f here)) same)
           ∙ sym (ap count sum ∙ undecided_of_both sun polygons root before here);
-      few = omega (arith, found.few, c.loop-begun.invariant.few, length-take-le (end - begun) (drop begun days) (omega (arith, length-drop begun days, c.min-end.ensures)), ordered);
-      within = omega (arith, c.min-end.ensures);
+      few = omega (arith, found.few, c.loop-begun.invariant.few, length-take-le (end - begun) (drop begun days) (omega (arith, length-drop begun days, c.end_of_search-end.ensures.later, c.end_of_search-end.ensures.within)), ordered);
+      within = omega (arith, c.end_of_search-end.ensures.later, c.end_of_search-end.ensures.within);
       later = omega (arith, found.writes.later, c.loop-begun.invariant.later);
       written = adds_more _ _ _ (text before) (days_text (map (searched c.loop-begun.sky.sun c.loop-begun.sky.district c.loop-begun.sky.root) here)) _
           c.loop-begun.invariant.written found.writes.whole
