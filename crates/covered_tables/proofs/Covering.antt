@@ -26,18 +26,16 @@ use Rattle.covering_laws.specs.Acceptance.{AreAccepted}
 use Rattle.covering_laws.proofs.Accepted.{written_accepted}
 use Rattle.covering_laws.proofs.Documents.{line_no_feed}
 use Rattle.covering_laws.proofs.Settling.{trees_settled}
-use Rattle.order_reader.specs.Asked.{Asked}
-use Rattle.order_reader.specs.Offsets.{days_from as order_days, first_day, last_day, offsets_of}
-use Rattle.order_reader.specs.Rule.{IsOrder}
-use Rattle.order_reader.proofs.DateTexts.{day_text_plain}
-use Rattle.order_reader.proofs.EachLemmas.{each_length}
-use Rattle.order_reader.proofs.OffsetLemmas.{days_length}
+use Rattle.order_rule.specs.Asked.{Asked}
+use Rattle.order_rule.specs.Offsets.{first_day, last_day}
+use Rattle.order_rule.specs.Rule.{IsOrder}
+use Rattle.order_text.proofs.DateTexts.{day_text_plain}
 use Rattle.order_table.specs.Days.{DayRows, NightRows, days_from, days_of, rows_on}
 use Rattle.order_table.specs.Trees.{columns, entries_of, entry_at, night_columns, night_entries_of, root_over, table_of, table_of_trees, tree_day, tree_night, undecided}
 use Rattle.order_table.proofs.DayLemmas.{root_is_root}
+use Rattle.order_table.proofs.RightLemmas.{one_each}
 use Rattle.year_table.specs.Dates.{date_text}
 use Rattle.year_table.specs.Rules.{is_rule_byte}
-use Rattle.year_table.specs.Zones.{day_offset}
 use Rattle.sun_choice.specs.declared.choice.SunChoice.{SunChoice}
 use Rattle.order_covering.specs.Covering.{column_line, day_lines, letters_name, letters_text, line_of, night_content, night_lines, sun_line}
 use Rattle.order_covering.specs.Made.{settled_line}
@@ -167,10 +165,6 @@ covered_days o day (offset ∷ rest) early late = (
   record { seven = refl; date = date_utf8 day early (omega (arith, ints, late)) },
   covered_days o (day +ℤ pos 1) rest (omega (arith, ints, early)) (omega (arith, ints, late)),
 )
-
-one_each : (o : Asked) → IsOrder o → length o.offsets ≡ o.days
-unfolding offsets_of
-one_each o is = each_length (day_offset o.zone) (order_days o.from_day o.days) o.offsets is.offset_each ∙ days_length o.from_day o.days
 
 all_covered : (o : Asked) → IsOrder o → Every IsCovered (days_of o)
 all_covered o is = covered_days o o.from_day o.offsets is.not_early (rw (one_each o is) is.not_late)

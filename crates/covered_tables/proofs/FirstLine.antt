@@ -18,12 +18,12 @@ use Rattle.command_input.specs.Lines.{behind_line, first_line}
 use Rattle.covering_laws.specs.Feeds.{has_no_feed, is_no_feed}
 use Rattle.covering_laws.proofs.Texts.{HasNoFeed, no_feed-append}
 use Rattle.order_covering.specs.Covering.{covering_of}
-use Rattle.order_reader.specs.Asked.{Asked}
-use Rattle.order_reader.specs.Line.{extras_by, district_text, days_text, height_text, list_text, more_text, night_text, order_body, polygon_text, position_text, range_text, ring_text, second_text, span_text, sun_text, third_text, version_of, version_text, words_text, zone_text}
-use Rattle.order_reader.specs.Offsets.{is_zone}
-use Rattle.order_reader.specs.Reads.{ReadsLine}
-use Rattle.order_reader.proofs.LineLaws.{lines_are_read_again}
-use Rattle.order_reader.proofs.RuleLemmas.{rule_bytes}
+use Rattle.order_rule.specs.Asked.{Asked}
+use Rattle.order_rule.specs.Offsets.{is_zone}
+use Rattle.order_text.specs.Line.{extras_by, district_text, days_text, height_text, list_text, more_text, night_text, order_body, polygon_text, position_text, range_text, ring_text, second_text, span_text, sun_text, third_text, version_of, version_text, words_text, zone_text}
+use Rattle.order_text.specs.LineReading.{ReadsLine}
+use Rattle.order_text.proofs.LineLaws.{lines_are_read_again}
+use Rattle.order_text.proofs.RuleLemmas.{rule_bytes}
 use Rattle.region.specs.Rings.{Position}
 use Rattle.year_table.specs.Dates.{date_text, day_of_month, month_of, parts_text, two_digits}
 use Rattle.year_table.specs.Rules.{is_rule_byte}

@@ -3,8 +3,8 @@ use Rattle.std.specs.Prelude.{◌≡◌, ℕ, List, flat_map, Ok}
 use Rattle.command_input.specs.Input.{ReadsCovering}
 use Rattle.order_covering.specs.Covering.{covering_of, day_lines}
 use Rattle.order_covering.specs.declared.form.Form.{Form}
-use Rattle.order_reader.specs.Asked.{Asked}
-use Rattle.order_reader.specs.Rule.{IsOrder}
+use Rattle.order_rule.specs.Asked.{Asked}
+use Rattle.order_rule.specs.Rule.{IsOrder}
 use Rattle.order_table.specs.Days.{days_of}
 use Rattle.order_table.specs.Trees.{root_over, table_of, undecided}
 use Rattle.outcome.specs.Answer.{finished}

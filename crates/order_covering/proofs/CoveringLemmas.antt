@@ -14,9 +14,9 @@ use Rattle.covering.specs.declared.settled.Settled.{Settled}
 use Rattle.cell_judge.specs.Skies.{sky_content}
 use Rattle.method_table.specs.declared.problem.Problem.{Problem}
 use Rattle.method_table.specs.Row.{Row, column_word, row_of}
-use Rattle.order_reader.specs.Asked.{Asked}
-use Rattle.order_reader.specs.Line.{order_line}
-use Rattle.order_table.specs.Made.{day_of, night_of, searched}
+use Rattle.order_rule.specs.Asked.{Asked}
+use Rattle.order_text.specs.Line.{order_line}
+use Rattle.order_table.specs.Made.{day_of, night_of, rows_of, searched}
 use Rattle.order_table.specs.Ready.{IsReady}
 use Rattle.order_table.specs.Table.{day_undecided, days_undecided, is_undecided}
 use Rattle.order_table.specs.Trees.{columns, entries_of, entry_at, root_over, tree_night, undecided}
@@ -32,7 +32,7 @@ use Rattle.year_table.specs.Dates.{date_text}
 use Rattle.sun_choice.specs.declared.choice.SunChoice.{SunChoice}
 use Rattle.order_covering.proofs.Pieces.{sum_map, sum_parts}
 use Rattle.order_covering.specs.Covering.{covering_of, day_lines, letters_name, letters_text, line_of, night_lines, sun_word, tree_letters}
-use Rattle.order_covering.specs.Made.{IsDayIn, IsSettledNight, columns_written, content_of_night, counted_at, night_written, rows_of, settled_line, settled_night, undecided_in, written, written_at}
+use Rattle.order_covering.specs.Made.{IsDayIn, IsSettledNight, columns_written, content_of_night, counted_at, night_written, settled_line, settled_night, undecided_in, written, written_at}
 use Rattle.order_covering.specs.declared.form.Form.{Form}
 use Rattle.order_covering.specs.declared.form.Form.TheVariants.{Letters, Runs}
 use Rattle.order_covering.specs.declared.night.SettledNight.{SettledNight}

@@ -35,7 +35,7 @@ use Rattle.covering.proofs.Spelling.{letters-step}
 use Rattle.cell_judge.specs.declared.sky.Sky.{Sky}
 use Rattle.days_sky.specs.declared.day.Day.{Day}
 use Rattle.days_sky.specs.Days.{all_rows, days_content, rows_of_day}
-use Rattle.days_sky.proofs.DayLemmas.{row_of_day}
+use Rattle.days_sky.proofs.DayLemmas.{own_answers}
 
 -- the letters of a task with this verdict, whose children have these
 abbrev lettered : ℕ → Cell → List ℕ → Verdict → List ℕ
@@ -90,12 +90,8 @@ pub own_settled : (sun : SunChoice) (polygons : List Polygon) (root : Cell) → 
     (i : ℕ) (rows : List Row) → i < length days → get_or days i rows ≡ rows → (k : ℕ) → k < 7 → (s : Settled) →
     IsSettled (days_content sun polygons days root) (7 * i + k) s → IsSettled (sky_content sun polygons rows root) k s
 own_settled sun polygons root is days each i rows inside own k known s settled =
-    let day : row_at (all_rows days) (7 * i + k) ≡ row_at rows k =
-    row_of_day days i k rows _ each inside known ∙ ap (λ (l : List Row). row_at l k) own in
-    settled_as (days_content sun polygons days root) (sky_content sun polygons rows root) (skies_are_lawful sun polygons rows root is) (7 * i + k) k (record {
-      same_root = refl;
-      same_verdicts = λ cell in'. ap (λ (row : Row). verdict_on (grid_sun_of sun) row polygons cell) day;
-    }) s settled
+    settled_as (days_content sun polygons days root) (sky_content sun polygons rows root) (skies_are_lawful sun polygons rows root is) (7 * i + k) k
+    (own_answers sun polygons root days each i rows inside own k known) s settled
 
 pub own_settled_if : {E : Type 0} (sun : SunChoice) (polygons : List Polygon) (root : Cell) → IsRoot root → (days : List (List Row)) → Every (λ rows. length rows ≡ 7) days →
     (i : ℕ) (rows : List Row) → i < length days → get_or days i rows ≡ rows → (k : ℕ) → k < 7 → (r : Result Settled E) →

@@ -12,8 +12,8 @@ use Rattle.covering.specs.Runs.{runs_text}
 use Rattle.covering.specs.Settles.{leaves_of, refuted_word_of}
 use Rattle.method_table.specs.Row.{Row, column_word}
 use Rattle.night_portion.specs.Sun.{repeated}
-use Rattle.order_reader.specs.Asked.{Asked}
-use Rattle.order_reader.specs.Line.{order_line}
+use Rattle.order_rule.specs.Asked.{Asked}
+use Rattle.order_text.specs.Line.{order_line}
 use Rattle.order_table.specs.Days.{DayRows, NightRows, days_of}
 use Rattle.order_table.specs.Trees.{columns, night_columns, root_over}
 use Rattle.region.specs.declared.points.Point.{Point}

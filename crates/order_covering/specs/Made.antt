@@ -8,7 +8,7 @@ use Rattle.covering.specs.Lines.{line_data}
 use Rattle.covering.specs.Settles.{IsSettled}
 use Rattle.covering.specs.declared.settled.Settled.{Settled}
 use Rattle.method_table.specs.Row.{Row, column_word, row_of}
-use Rattle.order_table.specs.Made.{day_of, night_of}
+use Rattle.order_table.specs.Made.{day_of, night_of, rows_of}
 use Rattle.order_table.specs.Table.{is_undecided}
 use Rattle.order_table.specs.Trees.{columns, entry_at}
 use Rattle.order_table.specs.declared.day.Day.{Day}
@@ -29,9 +29,6 @@ settled_line form column date s =
 -- how many entries an entry leaves undecided
 abbrev pub undecided_in : Entry → ℕ
 undecided_in e = if is_undecided e then 1 else 0
-
-abbrev pub rows_of : Day → List Row
-rows_of day = map row_of day.problems
 
 -- day i of these is this one
 pub record IsDayIn (days : List (List Row)) (i : ℕ) (day : Day) : Type 0 where

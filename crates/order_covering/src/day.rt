@@ -3,11 +3,11 @@ ghost use Rattle.std.specs.Prelude.{◌≡◌, ◌<◌, ◌≤◌, length, map, 
 ghost use Rattle.cell_judge.specs.Skies.{sky_content};
 ghost use Rattle.covering.specs.Settles.{IsSettled};
 ghost use Rattle.days_sky.specs.Days.{days_content, rows_of_day};
-ghost use Rattle.order_covering.specs.Made.{IsDayIn, columns_written, counted_at, rows_of, written_at};
-ghost use Rattle.order_table.specs.Made.{searched};
+ghost use Rattle.order_covering.specs.Made.{IsDayIn, columns_written, counted_at, written_at};
+ghost use Rattle.order_table.specs.Made.{rows_of, searched};
 ghost use Rattle.order_table.specs.Table.{day_undecided};
 ghost use Rattle.outcome.specs.Writing.{Writes};
-ghost use Rattle.steal_pool.specs.Harvests.{IsHarvest};
+ghost use Rattle.plain_search.specs.Harvests.{IsHarvest};
 
 use crate::date::date_of;
 use crate::form::Form;
@@ -18,9 +18,9 @@ use method_table::column_word;
 use no_memory::NoMemory;
 use order_table::Day;
 use outcome::Stop;
+use plain_search::Harvest;
 use source_sink::Sink;
 use std::alloc::Global;
-use steal_pool::Harvest;
 
 /// What is settled of column `k` of day `i`, from the search of several days.
 fn settle_column(

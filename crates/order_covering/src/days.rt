@@ -2,13 +2,13 @@
 ghost use Rattle.std.specs.Prelude.{◌≡◌, ◌*◌, ◌≤◌, flat_map, length, map, IfOk};
 ghost use Rattle.days_sky.specs.Days.{days_content, rows_of_day};
 ghost use Rattle.order_covering.specs.Covering.{covering_of};
-ghost use Rattle.order_covering.specs.Made.{IsDayIn, rows_of, written};
-ghost use Rattle.order_reader.specs.Asked.{asked_of};
-ghost use Rattle.order_table.specs.Made.{searched};
+ghost use Rattle.order_covering.specs.Made.{IsDayIn, written};
+ghost use Rattle.order_rule.specs.Asked.{asked_of};
+ghost use Rattle.order_table.specs.Made.{rows_of, searched};
 ghost use Rattle.order_table.specs.Table.{day_undecided, days_undecided};
 ghost use Rattle.order_table.specs.Trees.{undecided};
 ghost use Rattle.outcome.specs.Writing.{Writes};
-ghost use Rattle.steal_pool.specs.Harvests.{IsHarvest};
+ghost use Rattle.plain_search.specs.Harvests.{IsHarvest};
 
 use crate::day::write_columns;
 use crate::form::Form;
@@ -16,28 +16,19 @@ use crate::night::write_night;
 use cell_judge::Sky;
 use days_sky::DaysSky;
 use no_memory::NoMemory;
-use order_reader::{Order, order_line};
-use order_table::{Day, prepare};
+use order_rule::Order;
+use order_table::{Day, judged_days, prepare};
+use order_text::order_line;
 use outcome::Stop;
+use plain_search::Harvest;
 use source_sink::{Sink, write_all};
 use std::alloc::Global;
 use std::sync::Wait;
 use std::thread::Threads;
-use steal_pool::{Gate, Harvest, search};
+use steal_pool::{Gate, search};
 
 /// How many days one search is over: enough for its workers, few enough for its leaves.
 const DAYS_AT_ONCE: usize = 8;
-
-/// The days with what the judge of several days keeps of each.
-fn days_of_sky(alloc: Global, days: &[Day]) -> Result<Vec<days_sky::Day>, NoMemory>
-    ensures { IfOk result (λ made. map rows_of_day made.items ≡ map rows_of days.now) }
-{
-    let mut made = Vec::new(alloc);
-    for day in days {
-        made.push(days_sky::Day::new(day.problems))?;
-    }
-    Ok(made)
-}
 
 /// Writes the lines of day `i` from the search of several days, and those of its night; answers how many of its columns'
 /// entries are undecided.
@@ -129,10 +120,10 @@ fn write_some<R: Threads + Wait + Sync, K: Sink, G: Gate + Sync>(
     ensures count { IfOk result (λ count. count ≡ days_undecided (map (searched sky.now.sun sky.now.district sky.now.root) days.now)) }
     ensures few { IfOk result (λ count. count ≤ 7 * length days.now) }
 {
-    let Ok(made) = days_of_sky(alloc, days) else {
+    let Ok(judged) = judged_days(alloc, days) else {
         return Err(Stop::NoMemory);
     };
-    let judge = DaysSky::new(sky, &made);
+    let judge = DaysSky::new(sky, &judged);
     let Ok(harvest) = search(rt, alloc, &judge, workers, gate) else {
         return Err(Stop::NoMemory);
     };

@@ -15,7 +15,7 @@ use Rattle.outcome.specs.declared.status.Status.{Status}
 use Rattle.outcome.specs.declared.status.Status.TheVariants.{CoverRefused}
 use Rattle.outcome.specs.declared.stop.Stop.{Stop}
 use Rattle.outcome.specs.declared.stop.Stop.TheVariants.{NoMemory as StopNoMemory, WriteFault as StopWriteFault}
-use Rattle.order_reader.specs.Asked.{Asked}
+use Rattle.order_rule.specs.Asked.{Asked}
 use Rattle.order_table.specs.Table.{DayTable, days_undecided, front_text, table_text}
 use Rattle.shown_table.specs.declared.bad.BadLine.{BadLine}
 use Rattle.shown_table.specs.declared.bad.Shown.{Shown}

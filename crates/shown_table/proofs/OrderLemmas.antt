@@ -20,20 +20,17 @@ use Rattle.cell_judge.specs.Skies.{row_at}
 use Rattle.cell_judge.specs.SkyLaws.{IsRow}
 use Rattle.cell_judge.proofs.DayLaws.{days_have_rows}
 use Rattle.cell_judge.proofs.EntryLaws.{lies_in_root}
-use Rattle.order_reader.proofs.EachLemmas.{each_length}
-use Rattle.order_reader.proofs.OffsetLemmas.{days_length, offsets_in_range}
-use Rattle.order_reader.specs.Asked.{Asked, asked_of}
-use Rattle.order_reader.specs.Late.{interval_on}
-use Rattle.order_reader.specs.Offsets.{IsOffset, first_day, last_day, offsets_of, days_from as order_days}
-use Rattle.order_reader.specs.Rule.{IsOrder}
-use Rattle.order_reader.specs.declared.order.Order.{Order}
+use Rattle.order_rule.specs.Asked.{Asked}
+use Rattle.order_rule.specs.Late.{interval_on}
+use Rattle.order_rule.specs.Offsets.{IsOffset, first_day, last_day}
+use Rattle.order_rule.specs.Rule.{IsOrder}
 use Rattle.order_table.specs.Days.{DayRows, day_with, days_from, days_of, night_by, night_on, noon_on, rows_on}
 use Rattle.order_table.specs.RightTable.{IsRightDay, scene_of}
 use Rattle.order_table.specs.Trees.{root_over}
 use Rattle.order_table.proofs.DayLemmas.{is_day, root_is_root}
-use Rattle.year_table.specs.Zones.{day_offset}
+use Rattle.order_table.proofs.RightLemmas.{in_range, one_each}
 use Rattle.shown_table.specs.declared.bad.BadLine.{BadLine}
-use Rattle.shown_table.specs.Right.{IsRightShown, ShownTablesAreRight}
+use Rattle.shown_table.specs.Right.{ShownTablesAreRight}
 use Rattle.shown_table.specs.Shown.{bad_line, last_number, shown_at, shown_days, shown_table, sun_shown_at}
 use Rattle.shown_table.proofs.RightLemmas.{IsFit, IsFitNight, IsStarting, day_is_right, line_is_right, sun_is_right}
 use Rattle.shown_table.proofs.ShowingLemmas.{IsWeekly, all_days, each_day, first_days}
@@ -94,14 +91,6 @@ good_days o faultless low day (offset ∷ rest) each early late = (
   good_days o faultless low (day +ℤ pos 1) rest each.1 (omega (arith, ints, early)) (omega (arith, ints, late)),
 )
 
-one_each : (o : Asked) → IsOrder o → length o.offsets ≡ o.days
-unfolding offsets_of
-one_each o is = each_length (day_offset o.zone) (order_days o.from_day o.days) o.offsets is.offset_each ∙ days_length o.from_day o.days
-
-in_range : (o : Asked) → IsOrder o → All IsOffset o.offsets
-unfolding offsets_of
-in_range o is = offsets_in_range o.zone (order_days o.from_day o.days) o.offsets is.offset_each
-
 all_good : (o : Asked) → IsOrder o → Every (IsGood o) (days_of o)
 all_good o is =
     good_days o is.sound is.low o.from_day o.offsets (recursion_from_All IsOffset o.offsets (in_range o is)) is.not_early (rw (one_each o is) is.not_late)
@@ -132,18 +121,3 @@ shown_tables_are_right o is lines =
         right = right;
       };
     }
-
-pub order_is_shown : (o : Order) (lines : List ℕ) → IsRightShown (asked_of o) (shown_table (asked_of o) lines)
-order_is_shown o lines =
-    shown_tables_are_right (asked_of o)
-    (record {
-      not_early = o.not_early;
-      not_late = o.not_late;
-      some_days = o.some_days;
-      few_days = o.few_days;
-      known_zone = o.known_zone;
-      offset_each = o.offset_each;
-      low = o.low;
-      late_in_range = o.late_in_range;
-      sound = o.sound;
-    }) lines

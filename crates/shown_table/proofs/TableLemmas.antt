@@ -12,7 +12,7 @@ use Rattle.outcome.specs.Writing.{Writes}
 use Rattle.outcome.specs.declared.stop.Stop.{Stop}
 use Rattle.outcome.proofs.Streams.{adds_nothing, stopped, then_writes, written}
 use Rattle.region.specs.Rings.{Polygon}
-use Rattle.order_reader.specs.Asked.{Asked}
+use Rattle.order_rule.specs.Asked.{Asked}
 use Rattle.order_table.specs.Days.{DayRows, days_of}
 use Rattle.order_table.specs.Made.{day_of}
 use Rattle.order_table.specs.Ready.{IsReady}
@@ -215,8 +215,8 @@ module _ (o : Asked) (r : Ready) (text : List ℕ) (is : IsReady o r) where
       ∙ ap (λ (m : ℕ). front_in r text ++ end_line o.days m) (sym counted)
 
   pub whole_written : (rest : List ℕ) (u : ℕ) → Days.end ≡ Ok rest → length rest ≡ 0 → u ≡ days_undecided Days.days →
-      (x : Unit {0}) (out out1 out2 : ℕ) (old mid new : Option (List ℕ)) → Writes {X = Shown} (front_in r text) (Ok (Whole u)) out out1 old mid →
-      Writes {X = Unit {0}} (end_line o.days u) (Ok x) out1 out2 mid new → Writes {X = Shown} (shown_text o text) (Ok (Whole u)) out out2 old new
+      (x : ℕ) (out out1 out2 : ℕ) (old mid new : Option (List ℕ)) → Writes {X = Shown} (front_in r text) (Ok (Whole u)) out out1 old mid →
+      Writes {X = ℕ} (end_line o.days u) (Ok x) out1 out2 mid new → Writes {X = Shown} (shown_text o text) (Ok (Whole u)) out out2 old new
   whole_written rest u end none counted x out out1 out2 old mid new front last =
       let first = front.later in
       let later = last.later in
@@ -225,7 +225,7 @@ module _ (o : Asked) (r : Ready) (text : List ℕ) (is : IsReady o r) where
 
   pub end_stopped : (rest : List ℕ) (u : ℕ) → Days.end ≡ Ok rest → length rest ≡ 0 → u ≡ days_undecided Days.days →
       (stop : Stop) (out out1 out2 : ℕ) (old mid new : Option (List ℕ)) → Writes {X = Shown} (front_in r text) (Ok (Whole u)) out out1 old mid →
-      Writes {X = Unit {0}} (end_line o.days u) (Err stop) out1 out2 mid new → Writes {X = Shown} (shown_text o text) (Err stop) out out2 old new
+      Writes {X = ℕ} (end_line o.days u) (Err stop) out1 out2 mid new → Writes {X = Shown} (shown_text o text) (Err stop) out out2 old new
   end_stopped rest u end none counted stop out out1 out2 old mid new front last =
-      stopped {X = Unit {0}} {Y = Shown} (front_in r text) (end_line o.days u) [] (shown_text o text) stop out out1 out2 old mid new
+      stopped {X = ℕ} {Y = Shown} (front_in r text) (end_line o.days u) [] (shown_text o text) stop out out1 out2 old mid new
       (whole_text rest u end none counted ∙ ap (λ t. front_in r text ++ t) (sym (append-nil (end_line o.days u)))) front.whole front.later last

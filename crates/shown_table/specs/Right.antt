@@ -1,11 +1,11 @@
 -- What is true of the table that a covering shows, whoever made it.
 use Rattle.std.specs.Prelude.{◌≡◌, List, ℕ, All, None, length, map, take}
-use Rattle.order_reader.specs.Asked.{Asked}
+use Rattle.order_rule.specs.Asked.{Asked}
 use Rattle.order_table.specs.Days.{days_of}
 use Rattle.order_table.specs.RightTable.{IsRightDay, IsRightFor}
 use Rattle.order_table.specs.Table.{rows_in}
 use Rattle.order_table.specs.Trees.{root_over}
-use Rattle.order_reader.specs.Rule.{IsOrder}
+use Rattle.order_rule.specs.Rule.{IsOrder}
 use Rattle.shown_table.specs.Shown.{ShownTable, shown_table}
 
 -- the days are the order's first ones, and all where no line is bad; and each of their entries is right, or open as said

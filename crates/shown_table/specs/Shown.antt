@@ -9,7 +9,7 @@ use Rattle.covering_check.specs.declared.fault.CoverFault.{CoverFault}
 use Rattle.covering_check.specs.declared.fault.CoverFault.TheVariants.{Column, Letter, Long, NoMemory, NotFailing, NotLine, NotShown, Short}
 use Rattle.method_table.specs.Row.{Row, column_word}
 use Rattle.order_covering.specs.Covering.{night_content, sun_word}
-use Rattle.order_reader.specs.Asked.{Asked}
+use Rattle.order_rule.specs.Asked.{Asked}
 use Rattle.order_table.specs.Days.{DayRows, NightRows, days_of}
 use Rattle.order_table.specs.Table.{DayTable, day_found, days_undecided, front_text, table_text}
 use Rattle.order_table.specs.Trees.{columns, night_columns, root_over}

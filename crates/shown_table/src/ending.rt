@@ -1,6 +1,6 @@
 // How a run ends that showed a covering.
 ghost use Rattle.std.specs.Prelude.{◌≡◌, IfOk, string_bytes};
-ghost use Rattle.order_reader.specs.Asked.{asked_of};
+ghost use Rattle.order_rule.specs.Asked.{asked_of};
 ghost use Rattle.outcome.specs.Endings.{EndsBy, IsRefusedBy};
 ghost use Rattle.outcome.specs.Streams.{Stream, stream};
 ghost use Rattle.shown_table.specs.Right.{IsRightShown};
@@ -9,7 +9,7 @@ ghost use Rattle.shown_table.specs.Shown.{bad_text, fault_text, line_by, shown_a
 use crate::bad::{BadLine, Shown};
 use crate::table::show_table;
 use covering_check::CoverFault;
-use order_reader::Order;
+use order_rule::Order;
 use outcome::{Ending, Status, ending_of};
 use source_sink::Sink;
 use std::alloc::{AllocError, Global};

@@ -1,6 +1,6 @@
 // The table that a covering shows, written day by day.
 ghost use Rattle.std.specs.Prelude.{◌≡◌, ◌≤◌, None, length};
-ghost use Rattle.order_reader.specs.Asked.{asked_of};
+ghost use Rattle.order_rule.specs.Asked.{asked_of};
 ghost use Rattle.order_table.specs.Table.{days_text};
 ghost use Rattle.outcome.specs.Writing.{Writes};
 ghost use Rattle.region.specs.Faults.{first_fault};
@@ -14,7 +14,7 @@ use crate::day::show_day;
 use crate::lines::Lines;
 use cell_judge::Sky;
 use covering_check::CoverFault;
-use order_reader::Order;
+use order_rule::Order;
 use order_table::{Day, Ready, prepare, write_end};
 use outcome::Stop;
 use source_sink::{Sink, write_all};
@@ -80,6 +80,7 @@ pub(crate) fn show_table<K: Sink>(
         (K.faults out.old) (K.faults out.new) (K.held out.old) (K.held out.new) }
     ensures right { IsRightShown (asked_of order) (shown_table (asked_of order) text.now) }
 {
+    order.keeps_the_rule();
     let days = order.days;
     let Ok(mut ready) = prepare(alloc, order) else {
         return Err(Stop::NoMemory);
@@ -94,7 +95,7 @@ pub(crate) fn show_table<K: Sink>(
         return Ok(Shown::Bad(lines.bad(CoverFault::NotLine)));
     }
     match write_end(alloc, days, undecided, out) {
-        Ok(()) => Ok(Shown::Whole(undecided)),
+        Ok(_) => Ok(Shown::Whole(undecided)),
         Err(stop) => Err(stop),
     }
 }

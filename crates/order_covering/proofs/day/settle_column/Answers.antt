@@ -1,7 +1,7 @@
 use Rattle.std.proofs.Common.{map, arith}
 use Rattle.days_sky.specs.Days.{rows_of_day}
 use Rattle.days_sky.proofs.DayLemmas.{count_of_rows, whole_days}
-use Rattle.order_covering.specs.Made.{rows_of}
+use Rattle.order_table.specs.Made.{rows_of}
 use Rattle.order_covering.proofs.Renumbered.{own_settled_if}
 use Rattle.order_covering.proofs.day.settle_column.Goals as goal
 

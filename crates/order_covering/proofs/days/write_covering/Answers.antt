@@ -1,6 +1,6 @@
 use Rattle.std.proofs.Common.{◌∙◌, ◌++◌, ap, arith, refl, sym, ℕ}
 use Rattle.std.specs.List.{flat_map}
-use Rattle.order_reader.specs.Asked.{asked_of}
+use Rattle.order_rule.specs.Asked.{asked_of}
 use Rattle.order_table.proofs.DayLemmas.{days_made}
 use Rattle.order_covering.specs.Covering.{covering_of}
 use Rattle.order_covering.specs.Made.{written}

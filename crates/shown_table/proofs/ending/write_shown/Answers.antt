@@ -1,5 +1,5 @@
 use Rattle.std.proofs.Common.{Ok, subst}
-use Rattle.order_reader.specs.Asked.{asked_of}
+use Rattle.order_rule.specs.Asked.{asked_of}
 use Rattle.outcome.specs.Streams.{stream}
 use Rattle.outcome.specs.Writing.{Writes}
 use Rattle.shown_table.specs.declared.bad.Shown.{Shown}

@@ -1,12 +1,12 @@
 use Rattle.std.proofs.Common.{◌≡◌, ◌∙◌, Ok, arith, length, subst}
 use Rattle.outcome.specs.Writing.{Writes}
-use Rattle.order_reader.specs.Asked.{asked_of}
+use Rattle.order_rule.specs.Asked.{asked_of}
 use Rattle.order_table.proofs.DayLemmas.{days_made}
 use Rattle.shown_table.specs.declared.bad.Shown.{Shown}
 use Rattle.shown_table.specs.Came.{IfWhole, ShowsDays}
 use Rattle.shown_table.specs.Made.{days_in, front_in, number_behind}
 use Rattle.shown_table.specs.Shown.{last_number}
-use Rattle.shown_table.proofs.OrderLemmas.{order_is_shown}
+use Rattle.shown_table.proofs.OrderLemmas.{shown_tables_are_right}
 use Rattle.shown_table.proofs.TableLemmas.{end_stopped, front_stopped, front_written, last_is, left_over, left_written, shown_whole, stops_at, whole_written}
 use Rattle.shown_table.proofs.table.show_table.Goals as goal
 
@@ -17,22 +17,22 @@ show_front-requires-clause-few g c =
     omega (arith, made, few)
 
 pub returns-in_default-clause-right : goal.returns-in_default-clause-right
-returns-in_default-clause-right g c = order_is_shown c.args.order c.args.text.now
+returns-in_default-clause-right g c = shown_tables_are_right (asked_of c.args.order) c.keeps_the_rule.ensures c.args.text.now
 
 pub returns-in-Ok-Bad-clause-right : goal.returns-in-Ok-Bad-clause-right
-returns-in-Ok-Bad-clause-right g c = order_is_shown c.args.order c.args.text.now
+returns-in-Ok-Bad-clause-right g c = shown_tables_are_right (asked_of c.args.order) c.keeps_the_rule.ensures c.args.text.now
 
 pub returns-in-Err-clause-right : goal.returns-in-Err-clause-right
-returns-in-Err-clause-right g c = order_is_shown c.args.order c.args.text.now
+returns-in-Err-clause-right g c = shown_tables_are_right (asked_of c.args.order) c.keeps_the_rule.ensures c.args.text.now
 
 pub returns-then-lines-gt0-clause-right : goal.returns-then-lines-gt0-clause-right
-returns-then-lines-gt0-clause-right g c = order_is_shown c.args.order c.args.text.now
+returns-then-lines-gt0-clause-right g c = shown_tables_are_right (asked_of c.args.order) c.keeps_the_rule.ensures c.args.text.now
 
 pub returns-in-Ok-write_end-clause-right : goal.returns-in-Ok-write_end-clause-right
-returns-in-Ok-write_end-clause-right g c = order_is_shown c.args.order c.args.text.now
+returns-in-Ok-write_end-clause-right g c = shown_tables_are_right (asked_of c.args.order) c.keeps_the_rule.ensures c.args.text.now
 
 pub returns-clause-right : goal.returns-clause-right
-returns-clause-right g c = order_is_shown c.args.order c.args.text.now
+returns-clause-right g c = shown_tables_are_right (asked_of c.args.order) c.keeps_the_rule.ensures c.args.text.now
 
 pub returns-in-Ok-Bad-clause-shows : goal.returns-in-Ok-Bad-clause-shows
 returns-in-Ok-Bad-clause-shows g c =
@@ -130,7 +130,7 @@ returns-in-Ok-write_end-clause-writes g c =
     let steps = subst (λ (x : Shown). IfWhole (λ u. c.show_front.new.lines.number ≡ number_behind r.days.items) (Ok x)) c.in-Ok-Whole.field-0-is
     c.in-Ok-Whole.ensures.number in
     let rest = c.show_front.new.lines.text.now in
-    whole_written o r text is rest c.in-Ok-Whole.undecided shows.0 (omega (arith, c.if-lines-gt0.false)) shows.1 _ _ _ _ _ _ _ writes c.in-Ok-write_end.ensures
+    whole_written o r text is rest c.in-Ok-Whole.undecided shows.0 (omega (arith, c.if-lines-gt0.false)) shows.1 _ _ _ _ _ _ _ writes c.in-Ok-write_end.ensures.writes
 
 pub returns-clause-writes : goal.returns-clause-writes
 returns-clause-writes g c =
@@ -145,4 +145,4 @@ returns-clause-writes g c =
     let steps = subst (λ (x : Shown). IfWhole (λ u. c.show_front.new.lines.number ≡ number_behind r.days.items) (Ok x)) c.in-Ok-Whole.field-0-is
     c.in-Ok-Whole.ensures.number in
     let rest = c.show_front.new.lines.text.now in
-    end_stopped o r text is rest c.in-Ok-Whole.undecided shows.0 (omega (arith, c.if-lines-gt0.false)) shows.1 c.in-Err-write_end.stop _ _ _ _ _ _ writes c.in-Err-write_end.ensures
+    end_stopped o r text is rest c.in-Ok-Whole.undecided shows.0 (omega (arith, c.if-lines-gt0.false)) shows.1 c.in-Err-write_end.stop _ _ _ _ _ _ writes c.in-Err-write_end.ensures.writes
