@@ -4,7 +4,7 @@ use Rattle.std.specs.Prelude.{◌≢◌, ◌<◌, ◌==◌, String, IfOk}
 use Rattle.std.proofs.lemmas.Bool.{eqb-true, false≢true}
 use Rattle.command_input.specs.Input.{read, too_long}
 use Rattle.command_input.specs.Taken.{ReadCase}
-use Rattle.outcome.proofs.Endings.{given_up, order_refused, text_ending}
+use Rattle.outcome.proofs.Endings.{given_up, refused, text_ending}
 use Rattle.outcome.proofs.Endings.{unread as read_failed}
 use Rattle.outcome.proofs.Streams.{adds_nothing}
 use Rattle.outcome.specs.Answer.{line_of, refusal}
@@ -27,16 +27,6 @@ use Rattle.border_answer.specs.Answer.{answer_by, usage_line}
 use Rattle.border_answer.specs.Ended.{Answers, Ended, IsSound, IsSoundInput, IsVerdict}
 use Rattle.border_answer.specs.Verdict.{found_for, named_by, verdict_text}
 
-usage_said : (line : List ℕ) (ending : Ending) (source source' out : Stream) → IsRefusedBy Usage line ending →
-    EndsBy (refusal Usage line) ending source source' out out
-unfolding EndsAs line_of
-usage_said line (Plain status) source source' out is_memory =
-    subst (λ (s : Status). EndsBy (refusal Usage line) (Plain s) source source' out out) (sym is_memory)
-    (given_up (refusal Usage line) source source' out)
-usage_said line (Refused status text) source source' out is =
-    subst (λ (s : Status). EndsBy (refusal Usage line) (Refused s text) source source' out out) (sym is.0)
-    (record { ends = (refl, adds_nothing out.bytes); line = is.1 })
-
 record NoVerdict (status : Status) : Type 0 where
   not_read : status ≢ ReadFault
   none : IsVerdict status → ⊥
@@ -56,7 +46,7 @@ answers_words (word ∷ words) ending source out some is =
       input = g;
       spelled = spelled;
       sound = λ v. absurd (n.none v);
-      ends = usage_said usage_line ending source source out is;
+      ends = refused Usage tt usage_line ending source source out is;
       leaves = (refl, n.not_read);
     }
 
@@ -105,19 +95,19 @@ no_refused_verdict : (status : Status) → status ≡ OrderRefused → IsVerdict
 no_refused_verdict status is (inl v) = let e = sym is ∙ v in cc
 no_refused_verdict status is (inr v) = let e = sym is ∙ v in cc
 
-refused : (given : Input) (status : Status) (line : String Global) (source source' out : Stream)
+refused_input : (given : Input) (status : Status) (line : String Global) (source source' out : Stream)
     → ReadCase of_requests requested_of given (Err (Refused status line)) source source' → Unfit given (Refused status line) source source' out
-refused too_long status line source source' out case = record {
-  ends = order_refused of_requests.long (Refused status line) source source' out case;
+refused_input too_long status line source source' out case = record {
+  ends = refused OrderRefused tt of_requests.long (Refused status line) source source' out case;
   whole = λ short. absurd (short refl);
   sound = λ v. absurd (no_refused_verdict status case.0 v);
 }
-refused (read (Err fault)) status line source source' out case = record {
-  ends = order_refused (of_requests.line fault) (Refused status line) source source' out (case.0, case.1);
+refused_input (read (Err fault)) status line source source' out case = record {
+  ends = refused OrderRefused tt (of_requests.line fault) (Refused status line) source source' out (case.0, case.1);
   whole = λ short. case.2;
   sound = λ v. absurd (no_refused_verdict status case.0 v);
 }
-refused (read (Ok r)) status line source source' out case = absurd case
+refused_input (read (Ok r)) status line source source' out case = absurd case
 
 -- what was not read
 unfit : (ending : Ending) (source source' out : Stream) → IsRequestTaken source source' (Err ending) → Answers [] ending source source' out out
@@ -129,7 +119,7 @@ unfit (Plain status) source source' out is = record {
   leaves = record { within = is.within; whole = λ no_read memory short. plain_whole status source source' is.case no_read memory; later = is.later };
 }
 unfit (Refused status line) source source' out is =
-    let u = refused is.given status line source source' out is.case in
+    let u = refused_input is.given status line source source' out is.case in
     record {
       input = is.given;
       spelled = is.spelled;

@@ -15,13 +15,11 @@ use std::alloc::Global;
 fn usage(alloc: Global) -> Ending
     ensures { IsRefusedBy Status.Usage usage_line result }
 {
-    match String::from_str(
+    Ending::with_line(
         alloc,
+        Status::Usage,
         "usage: timetable-border < an object with an order and a border\n",
-    ) {
-        Ok(line) => Ending::Refused(Status::Usage, line),
-        Err(_) => Ending::Plain(Status::NoMemory),
-    }
+    )
 }
 
 /// Reads an order and a border, and writes the verdict on them; it takes no words.

@@ -1,24 +1,13 @@
 // The top call.
-ghost use Rattle.std.specs.Prelude.{◌≡◌, map, string_bytes};
-ghost use Rattle.outcome.specs.Endings.{line_of_ending, status_of_ending};
-ghost use Rattle.outcome.specs.Ends.{Reports};
+ghost use Rattle.std.specs.Prelude.{map, string_bytes};
 ghost use Rattle.outcome.specs.Streams.{stream, streams};
 ghost use Rattle.border_answer.specs.Ended.{Ended};
 ghost use Rattle.border_answer.specs.Headline.{Headline};
 
 use crate::answers::answer;
-use outcome::{Ending, Status};
-use source_sink::{Sink, Source, write_all};
+use outcome::Status;
+use source_sink::{Sink, Source};
 use std::alloc::Global;
-
-/// Writes the line of an ending, and passes a fault over; answers the status.
-fn report<E: Sink>(ending: &Ending, err: &mut E) -> Status
-    ensures status { result ≡ status_of_ending ending.now }
-    ensures reports { Reports (line_of_ending ending.now) (stream (E.held err.old) (E.faults err.old)) (stream (E.held err.new) (E.faults err.new)) }
-{
-    let _ = write_all(err, ending.line().as_bytes());
-    ending.status()
-}
 
 /// Reads an object with an order and a real border from the source, and writes to `out` whether the order's district
 /// holds the border. `Done` is answered where it holds, `Open` where that is not shown, and for each status from `Usage`
@@ -46,5 +35,5 @@ pub fn run<S: Source, K: Sink, E: Sink>(
         (stream (E.held err.new) (E.faults err.new))) }
 {
     let ending = answer(alloc, words, source, out);
-    report(&ending, err)
+    ending.report(err)
 }

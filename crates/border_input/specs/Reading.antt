@@ -4,13 +4,13 @@ use Rattle.std.specs.Option.{ok_or}
 use Rattle.exact_json.specs.Tree.{Tree, Entry}
 use Rattle.region.specs.Rings.{Polygon}
 use Rattle.region.specs.declared.faults.RegionFault.{RegionFault}
-use Rattle.order_reader.specs.Asked.{Asked}
-use Rattle.order_reader.specs.Geometry.{geometry_of}
-use Rattle.order_reader.specs.Lookup.{Found, absent, once, again, find_member, object_in}
+use Rattle.geo_json.specs.Geometry.{geometry_of}
+use Rattle.geo_json.specs.Lookup.{Found, absent, once, again, find_member, object_in}
 use Rattle.order_reader.specs.Reading.{needed, order_in}
 use Rattle.order_reader.specs.declared.fault.Member.TheVariants as members
 use Rattle.order_reader.specs.declared.fault.OrderFault.{OrderFault}
 use Rattle.order_reader.specs.declared.fault.OrderFault.TheVariants as orders
+use Rattle.order_rule.specs.Asked.{Asked}
 use Rattle.border_check.specs.Borders.{border_fault}
 use Rattle.border_input.specs.Gives.{◌>>=◌}
 use Rattle.border_input.specs.Requests.{Requested}

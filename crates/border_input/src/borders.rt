@@ -8,7 +8,7 @@ ghost use Rattle.border_input.specs.Reading.{border_in, border_of, border_value}
 use crate::fault::{BorderFault, RequestFault};
 use border_check::Border;
 use exact_json::{Json, JsonTable};
-use order_reader::pieces::{Found, GeometryFault, find_member, object_in, read_geometry};
+use geo_json::{Found, GeometryFault, find_member, object_in, read_geometry};
 use std::alloc::Global;
 
 /// The value of the member `border`.

@@ -4,7 +4,7 @@
 
 mod borders;
 mod fault;
-mod laws;
+pub mod laws;
 mod lines;
 mod parts;
 mod read;
@@ -12,7 +12,6 @@ mod request;
 mod source;
 
 pub use fault::{BorderFault, RequestFault};
-pub use laws::{every_text_is_a_request_or_refused, request_readings_agree};
 pub use read::read_request;
 pub use request::Request;
 pub use source::request_from;

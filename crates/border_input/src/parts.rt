@@ -1,7 +1,7 @@
 // An order and a border, read from an object of JSON.
 ghost use Rattle.std.specs.Prelude.{◌≡◌, ◌≢◌, ◌⊎◌};
 ghost use Rattle.exact_json.specs.View.{entries_of, tree_of};
-ghost use Rattle.order_reader.specs.Asked.{asked_of};
+ghost use Rattle.order_rule.specs.Asked.{asked_of};
 ghost use Rattle.border_input.specs.Gives.{Gives};
 ghost use Rattle.border_input.specs.Reading.{order_part, order_value, request_in, request_of};
 ghost use Rattle.border_input.specs.Requests.{requested_of};
@@ -10,8 +10,10 @@ use crate::borders::{border_in, border_value};
 use crate::fault::RequestFault;
 use crate::request::Request;
 use exact_json::{Json, JsonTable};
-use order_reader::pieces::{needed, object_in, order_in};
-use order_reader::{Member, Order, OrderFault};
+use geo_json::object_in;
+use order_reader::pieces::{needed, order_in};
+use order_reader::{Member, OrderFault};
+use order_rule::Order;
 use std::alloc::Global;
 
 /// A refusal of the order.

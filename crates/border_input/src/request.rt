@@ -1,5 +1,5 @@
 use border_check::Border;
-use order_reader::Order;
+use order_rule::Order;
 
 /// An order, and the real border of its district.
 #[derive(Drop)]

@@ -33,10 +33,7 @@ fn refused(alloc: Global, fault: RequestFault) -> Ending
 fn too_long(alloc: Global) -> Ending
     ensures { IsRefusedBy Status.OrderRefused long_request result }
 {
-    match String::from_str(alloc, "border refused 8 long\n") {
-        Ok(line) => Ending::Refused(Status::OrderRefused, line),
-        Err(_) => Ending::Plain(Status::NoMemory),
-    }
+    Ending::with_line(alloc, Status::OrderRefused, "border refused 8 long\n")
 }
 
 /// Reads the source to its end, and the order and the border that its bytes spell; or how the run ends that was to

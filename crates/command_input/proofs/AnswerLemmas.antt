@@ -7,9 +7,9 @@ use Rattle.command_input.specs.Taken.{IsCalendarReadAs, IsCoveringReadAs, IsRead
 use Rattle.command_input.specs.declared.covering.Covering.{Covering}
 use Rattle.command_input.proofs.InputLemmas.{told_by}
 use Rattle.ical_text.specs.declared.event.Event.{Event}
-use Rattle.order_reader.specs.Asked.{Asked, asked_of}
-use Rattle.order_reader.specs.declared.order.Order.{Order}
-use Rattle.outcome.proofs.Endings.{given_up, order_refused}
+use Rattle.order_rule.specs.Asked.{Asked, asked_of}
+use Rattle.order_rule.specs.declared.order.Order.{Order}
+use Rattle.outcome.proofs.Endings.{given_up, refused}
 use Rattle.outcome.proofs.Endings.{unread as read_failed}
 use Rattle.outcome.proofs.Streams.{adds_nothing}
 use Rattle.outcome.specs.Answer.{Answer, line_of, refusal}
@@ -19,7 +19,7 @@ use Rattle.outcome.specs.Streams.{Stream}
 use Rattle.outcome.specs.declared.ending.Ending.{Ending}
 use Rattle.outcome.specs.declared.ending.Ending.TheVariants.{Plain, Refused}
 use Rattle.outcome.specs.declared.status.Status.{Status}
-use Rattle.outcome.specs.declared.status.Status.TheVariants.{CoverRefused, IcalRefused, NoMemory, ReadFault}
+use Rattle.outcome.specs.declared.status.Status.TheVariants.{CoverRefused, IcalRefused, NoMemory, OrderRefused, ReadFault}
 use Rattle.set_reader.specs.Asked as set_asked
 use Rattle.set_reader.specs.declared.set.SetOrder.{SetOrder}
 use Rattle.source_sink.specs.Outside.{Rose}
@@ -113,30 +113,6 @@ module _ {X A F : Type 0} (wanted : Wanted) (input : Given (Result A F) → Inpu
       )
       by (read (Ok a)) case = absurd case
 
--- ---- a refusal whose status says more than its name
-
-refused_with : (which : Status) →
-    ((line : List ℕ) (text : String Global) (source source' out : Stream) → string_bytes text ≡ line →
-    EndsBy (refusal which line) (Refused which text) source source' out out) →
-    (line : List ℕ) (ending : Ending) (source source' out : Stream) → IsRefusedBy which line ending →
-    EndsBy (refusal which line) ending source source' out out
-refused_with which said line (Plain status) source source' out is_memory =
-    subst (λ (s : Status). EndsBy (refusal which line) (Plain s) source source' out out) (sym is_memory)
-    (given_up (refusal which line) source source' out)
-refused_with which said line (Refused status text) source source' out is =
-    subst (λ (s : Status). EndsBy (refusal which line) (Refused s text) source source' out out) (sym is.0)
-    (said line text source source' out is.1)
-
-cover_said : (line : List ℕ) (text : String Global) (source source' out : Stream) → string_bytes text ≡ line →
-    EndsBy (refusal CoverRefused line) (Refused CoverRefused text) source source' out out
-unfolding EndsAs line_of
-cover_said line text source source' out is = record { ends = (refl, adds_nothing out.bytes); line = is }
-
-calendar_said : (line : List ℕ) (text : String Global) (source source' out : Stream) → string_bytes text ≡ line →
-    EndsBy (refusal IcalRefused line) (Refused IcalRefused text) source source' out out
-unfolding EndsAs line_of
-calendar_said line text source source' out is = record { ends = (refl, adds_nothing out.bytes); line = is }
-
 -- ---- an order
 
 -- that was read
@@ -150,7 +126,7 @@ pub answers_refused : (f : Asked → Answer) (ending : Ending) (source source' o
     Answers an_order (answer_by f) ending source source' out out
 answers_refused f ending source source' out =
     answers_unfit {X = Order} an_order order of_orders asked_of (answer_by f) (λ input status source source' taken. taken) ending source source' out
-    (record { long = refl; is_long = tt; fault = λ e. refl; ends = order_refused })
+    (record { long = refl; is_long = tt; fault = λ e. refl; ends = refused OrderRefused tt })
 
 -- ---- a covering
 
@@ -165,7 +141,7 @@ pub answers_no_covering : (f : Asked → List ℕ → Answer) (ending : Ending) 
     Answers a_covering (answer_shown f) ending source source' out out
 answers_no_covering f ending source source' out =
     answers_unfit {X = Covering} a_covering covering of_coverings covered_of (answer_shown f) (λ input status source source' taken. taken) ending source source' out
-    (record { long = refl; is_long = tt; fault = λ e. refl; ends = refused_with CoverRefused cover_said })
+    (record { long = refl; is_long = tt; fault = λ e. refl; ends = refused CoverRefused tt })
 
 -- ---- a calendar
 
@@ -180,7 +156,7 @@ pub answers_no_calendar : (f : List Event → Answer) (ending : Ending) (source 
     Answers a_calendar (answer_listed f) ending source source' out out
 answers_no_calendar f ending source source' out =
     answers_unfit {X = List Event} a_calendar calendar of_calendars (λ events. events) (answer_listed f) (λ input status source source' taken. taken) ending source source' out
-    (record { long = refl; is_long = tt; fault = λ e. refl; ends = refused_with IcalRefused calendar_said })
+    (record { long = refl; is_long = tt; fault = λ e. refl; ends = refused IcalRefused tt })
 
 -- ---- a set of districts
 
@@ -195,4 +171,4 @@ pub answers_no_set : (f : set_asked.SetAsked → Answer) (ending : Ending) (sour
     Answers a_set (answer_together f) ending source source' out out
 answers_no_set f ending source source' out =
     answers_unfit {X = SetOrder} a_set set of_orders set_asked.asked_of (answer_together f) (λ input status source source' taken. taken) ending source source' out
-    (record { long = refl; is_long = tt; fault = λ e. refl; ends = order_refused })
+    (record { long = refl; is_long = tt; fault = λ e. refl; ends = refused OrderRefused tt })

@@ -12,11 +12,13 @@ use Rattle.ical_text.specs.Lines.{joined_lines}
 use Rattle.ical_text.specs.Reading.{reading}
 use Rattle.ical_text.specs.declared.event.Event.{Event}
 use Rattle.ical_text.specs.declared.fault.IcalFault.{IcalFault}
-use Rattle.order_reader.proofs.ReadLaws.{every_text_is_read_or_refused, line_readings_agree, order_readings_agree, some_answer}
-use Rattle.order_reader.specs.Asked.{Asked}
-use Rattle.order_reader.specs.LineReading.{line_order_in}
-use Rattle.order_reader.specs.Reads.{ReadsLine, ReadsOrder}
+use Rattle.order_reader.proofs.ReadLaws.{every_text_is_read_or_refused, order_readings_agree, some_answer}
+use Rattle.order_reader.specs.Reads.{ReadsOrder}
 use Rattle.order_reader.specs.declared.fault.OrderFault.{OrderFault}
+use Rattle.order_rule.specs.Asked.{Asked}
+use Rattle.order_text.proofs.LineLaws.{line_readings_agree}
+use Rattle.order_text.specs.LineReading.{line_order_in}
+use Rattle.order_text.specs.LineReading.{ReadsLine}
 use Rattle.outcome.specs.Endings.{IsRefusedBy}
 use Rattle.outcome.specs.Streams.{Stream}
 use Rattle.outcome.specs.declared.ending.Ending.{Ending}

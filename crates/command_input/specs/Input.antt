@@ -5,9 +5,10 @@ use Rattle.ical_text.specs.Laws.{Reads}
 use Rattle.ical_text.specs.Lines.{joined_lines}
 use Rattle.ical_text.specs.declared.event.Event.{Event}
 use Rattle.ical_text.specs.declared.fault.IcalFault.{IcalFault}
-use Rattle.order_reader.specs.Asked.{Asked}
-use Rattle.order_reader.specs.Reads.{ReadsLine, ReadsOrder}
+use Rattle.order_reader.specs.Reads.{ReadsOrder}
 use Rattle.order_reader.specs.declared.fault.OrderFault.{OrderFault}
+use Rattle.order_rule.specs.Asked.{Asked}
+use Rattle.order_text.specs.LineReading.{ReadsLine}
 use Rattle.set_reader.specs.Asked.{SetAsked}
 use Rattle.set_reader.specs.Reads.{ReadsSet}
 

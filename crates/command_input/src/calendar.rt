@@ -32,10 +32,7 @@ fn refused(alloc: Global, fault: IcalFault) -> Ending
 fn too_long(alloc: Global) -> Ending
     ensures { IsRefusedBy Status.IcalRefused long_calendar result }
 {
-    match String::from_str(alloc, "ical refused long\n") {
-        Ok(line) => Ending::Refused(Status::IcalRefused, line),
-        Err(_) => Ending::Plain(Status::NoMemory),
-    }
+    Ending::with_line(alloc, Status::IcalRefused, "ical refused long\n")
 }
 
 /// Reads the source to its end, and the events of the calendar that its bytes spell; or how the run ends that was to read

@@ -1,7 +1,7 @@
 // A covering as it was read.
 ghost use Rattle.std.specs.Prelude.{◌≤◌, length};
 
-use order_reader::Order;
+use order_rule::Order;
 
 /// A covering: the order that its first line spells, and its whole text, whose other lines stand from here on.
 #[derive(Drop)]

@@ -8,7 +8,9 @@ ghost use Rattle.command_input.specs.Taken.{IsCoveringReadAs, IsRefusalOf, of_co
 use crate::covering::Covering;
 use crate::lines::split_line;
 use crate::refusals::covering_line;
-use order_reader::{Order, OrderFault, read_order_line};
+use order_reader::OrderFault;
+use order_rule::Order;
+use order_text::read_order_line;
 use outcome::{Ending, Status};
 use source_sink::{ReadFault, Source, read_all};
 use std::alloc::Global;
@@ -33,10 +35,7 @@ fn refused(alloc: Global, fault: OrderFault) -> Ending
 fn too_long(alloc: Global) -> Ending
     ensures { IsRefusedBy Status.CoverRefused long_covering result }
 {
-    match String::from_str(alloc, "cover refused long\n") {
-        Ok(line) => Ending::Refused(Status::CoverRefused, line),
-        Err(_) => Ending::Plain(Status::NoMemory),
-    }
+    Ending::with_line(alloc, Status::CoverRefused, "cover refused long\n")
 }
 
 /// The covering of an order and a text, so many last bytes of which are its other lines.

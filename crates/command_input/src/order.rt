@@ -5,7 +5,8 @@ ghost use Rattle.command_input.specs.Refusals.{long_line};
 ghost use Rattle.command_input.specs.Taken.{IsReadAs, IsRefusalOf, of_orders};
 
 use crate::refusals::refusal_line;
-use order_reader::{Order, OrderFault, read_order};
+use order_reader::{OrderFault, read_order};
+use order_rule::Order;
 use outcome::{Ending, Status};
 use source_sink::{ReadFault, Source, read_all};
 use std::alloc::Global;
@@ -30,10 +31,7 @@ pub(crate) fn refused(alloc: Global, fault: OrderFault) -> Ending
 pub(crate) fn too_long(alloc: Global) -> Ending
     ensures { IsRefusedBy Status.OrderRefused long_line result }
 {
-    match String::from_str(alloc, "order refused 8 long\n") {
-        Ok(line) => Ending::Refused(Status::OrderRefused, line),
-        Err(_) => Ending::Plain(Status::NoMemory),
-    }
+    Ending::with_line(alloc, Status::OrderRefused, "order refused 8 long\n")
 }
 
 /// Reads the source to its end, and the order that its bytes spell; or how the run ends that was to read it.

@@ -22,8 +22,6 @@ number_of IcalRefused = 8
 
 -- the line on the error stream of a status that says no more than its name
 unfoldable pub line_of_status : Status → List ℕ
-line_of_status Usage =
-    codes "usage: timetable table [--workers W] | cover [--workers W] [--form F] | demo [--number M] [--workers W] | plain | check | order | sun MINUTE LON LAT WHAT [meeus] | set [--workers W] | ical [--workers W] | agenda\n"
 line_of_status ReadFault = codes "read fault\n"
 line_of_status WriteFault = codes "write fault\n"
 line_of_status NoMemory = codes "no memory\n"
@@ -36,13 +34,9 @@ line_of a WriteFault = line_of_status WriteFault
 line_of a NoMemory = line_of_status NoMemory
 line_of a status = a.line
 
--- ---- the three answers there are
+-- ---- the two answers there are
 
--- wrong words
-abbrev pub usage_answer : Answer
-usage_answer = record { status = Usage; text = []; line = line_of_status Usage }
-
--- an input that is refused
+-- words or an input that are refused
 abbrev pub refusal : Status → List ℕ → Answer
 refusal status line = record { status = status; text = []; line = line }
 

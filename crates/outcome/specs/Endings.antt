@@ -18,7 +18,7 @@ abbrev pub line_of_ending : Ending → List ℕ
 line_of_ending (Plain status) = line_of_status status
 line_of_ending (Refused status line) = string_bytes line
 
--- the input is refused with this status and this line, or memory for the line was not found
+-- the words or the input are refused with this status and this line, or memory for the line was not found
 abbrev pub IsRefusedBy : Status → List ℕ → Ending → Type 0
 IsRefusedBy status line (Plain other) = other ≡ NoMemory
 IsRefusedBy status line (Refused other text) = (other ≡ status) × (string_bytes text ≡ line)

@@ -1,5 +1,6 @@
 // How a run of the program ends, and what it did to its streams.
-// Contract: the status, text and line of an answer; what a call that writes a text did to the output.
+// Contract: the status, text and line of an answer; what a call that writes a text did to the output, and one that
+// reports an ending to the error stream.
 #![tactic(auto)]
 
 mod ending;

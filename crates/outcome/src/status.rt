@@ -39,14 +39,12 @@ impl Status {
         ensures { result.now ≡ line_of_status self }
     {
         match self {
-            Status::Usage => {
-                "usage: timetable table [--workers W] | cover [--workers W] [--form F] | demo [--number M] [--workers W] | plain | check | order | sun MINUTE LON LAT WHAT [meeus] | set [--workers W] | ical [--workers W] | agenda\n"
-            }
             Status::ReadFault => "read fault\n",
             Status::WriteFault => "write fault\n",
             Status::NoMemory => "no memory\n",
             Status::Done
             | Status::Open
+            | Status::Usage
             | Status::OrderRefused
             | Status::CoverRefused
             | Status::IcalRefused => "",

@@ -11,17 +11,17 @@ use Rattle.command_input.specs.declared.covering.Covering.{Covering}
 use Rattle.demo_summary.specs.Demo.{demo_asked}
 use Rattle.demo_summary.specs.Summary.{summary_line}
 use Rattle.ical_text.specs.declared.event.Event.{Event}
-use Rattle.order_reader.specs.Asked.{Asked, asked_of}
+use Rattle.order_rule.specs.Asked.{Asked, asked_of}
 use Rattle.order_table.specs.Trees.{undecided}
-use Rattle.order_reader.specs.declared.order.Order.{Order as OrderRead}
-use Rattle.outcome.proofs.Endings.{given_up, text_ending, usage_ending}
+use Rattle.order_rule.specs.declared.order.Order.{Order as OrderRead}
+use Rattle.outcome.proofs.Endings.{given_up, refused, text_ending}
 use Rattle.outcome.specs.Answer.{Answer, finished}
-use Rattle.outcome.specs.Endings.{EndsBy, ending_of, line_of_ending, status_of_ending}
+use Rattle.outcome.specs.Endings.{EndsBy, IsRefusedBy, ending_of, line_of_ending, status_of_ending}
 use Rattle.outcome.specs.Ends.{Reports}
 use Rattle.outcome.specs.Streams.{Stream, Streams}
 use Rattle.outcome.specs.Writing.{Writes}
 use Rattle.outcome.specs.declared.ending.Ending.{Ending}
-use Rattle.outcome.specs.declared.ending.Ending.TheVariants.{Plain}
+use Rattle.outcome.specs.declared.ending.Ending.TheVariants.{Plain, Refused}
 use Rattle.outcome.specs.declared.status.Status.{Status}
 use Rattle.outcome.specs.declared.status.Status.TheVariants.{Done, NoMemory, Usage, ReadFault}
 use Rattle.outcome.specs.declared.status.Status.TheVariants.{Open as StatusOpen}
@@ -35,6 +35,7 @@ use Rattle.set_reader.specs.declared.set.SetOrder.{SetOrder}
 use Rattle.set_table.specs.Trees as sets
 use Rattle.timetable.specs.Answer.{answer_to, set_answer, wanted_by}
 use Rattle.timetable.specs.Ended.{Ended}
+use Rattle.command_words.specs.Usage.{usage_line}
 use Rattle.command_words.specs.declared.command.Command.{Command}
 use Rattle.command_words.specs.declared.command.Command.TheVariants.{Unknown, Sun, Check, Demo, Agenda, Set}
 
@@ -51,11 +52,16 @@ no_read_fault (Ok n) same = by (n == 0) same where
 no_read_fault (Err StopNoMemory) same = cc
 no_read_fault (Err StopWriteFault) same = cc
 
-pub unknown_answers : (command : Command) (source out : Stream) → command ≡ Unknown →
-    AnswersTo command (Plain Usage) source source out out
-unknown_answers command source out is =
-    subst (λ (c : Command). AnswersTo c (Plain Usage) source source out out) (sym is)
-    (answers_unread (answer_to Unknown) (Plain Usage) source out out (usage_ending source source out) (λ same. cc))
+-- words that are refused end with no read fault
+no_read_fault_by : (line : List ℕ) (ending : Ending) → IsRefusedBy Usage line ending → status_of_ending ending ≢ ReadFault
+no_read_fault_by line (Plain status) is same = cc
+no_read_fault_by line (Refused status text) is same = let usage = is.0 in cc
+
+pub unknown_answers : (command : Command) (ending : Ending) (source out : Stream) → command ≡ Unknown → IsRefusedBy Usage usage_line ending →
+    AnswersTo command ending source source out out
+unknown_answers command ending source out is said =
+    subst (λ (c : Command). AnswersTo c ending source source out out) (sym is)
+    (answers_unread (answer_to Unknown) ending source out out (refused Usage tt usage_line ending source source out said) (no_read_fault_by usage_line ending said))
 
 pub demo_answers : (command : Command) (number workers : ℕ) (w : Result ℕ Stop) (ending : Ending) (source out out' : Stream) →
     command ≡ Demo number workers → Writes {X = ℕ} (summary_line number) w out.faults out'.faults out.bytes out'.bytes →

@@ -5,14 +5,14 @@ use Rattle.command_input.specs.Lines.{first_line}
 use Rattle.command_words.specs.declared.command.Command.{Command}
 use Rattle.command_words.specs.declared.command.Command.TheVariants.{Unknown, Sun, Order, Plain, Table, Cover, Check, Demo, Ical, Agenda, Set}
 use Rattle.order_calendar.specs.Calendar.{calendar_of}
-use Rattle.order_reader.specs.Asked.{Asked}
+use Rattle.order_rule.specs.Asked.{Asked}
 use Rattle.order_table.specs.Trees.{table_of, undecided}
 use Rattle.outcome.specs.Answer.{Answer, finished}
 use Rattle.outcome.specs.Streams.{Streams}
 use Rattle.outcome.specs.declared.status.Status.{Status}
 use Rattle.outcome.specs.declared.status.Status.TheVariants.{Done}
 use Rattle.outcome.specs.declared.status.Status.TheVariants.{Open as StatusOpen}
-use Rattle.order_reader.proofs.RuleKept.{orders_keep_the_rule}
+use Rattle.order_text.proofs.LineKept.{lines_keep_the_rule}
 use Rattle.order_table.specs.Table.{table_text}
 use Rattle.set_reader.specs.Asked.{SetAsked}
 use Rattle.set_table.specs.Trees as sets
@@ -198,7 +198,7 @@ checked_table status before after run it is =
       read_through = whole.read_through (λ reads. cc);
       accepted = none;
       printed = subst (Adds before.out.bytes after.out.bytes) (shown_whole c.order c.lines none) written;
-      right = (shown_tables_are_right c.order (orders_keep_the_rule.of_a_line (first_line spelled.bytes) c.order spelled.spelled.1.0) c.lines).whole none;
+      right = (shown_tables_are_right c.order (lines_keep_the_rule (first_line spelled.bytes) c.order spelled.spelled.1.0) c.lines).whole none;
       decided = λ done. sym (ap (undecided_by Check) same) ∙ whole.decided done;
       undecided = λ left zero. whole.undecided left (ap (undecided_by Check) same ∙ zero);
     }

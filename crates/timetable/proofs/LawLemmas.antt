@@ -7,7 +7,7 @@ use Rattle.command_input.specs.Input.{Input, IsSpelled, Wanted, a_calendar, a_co
 use Rattle.order_table.proofs.RightLemmas.{tables_are_right as all_tables_are_right}
 use Rattle.order_reader.proofs.RuleKept.{orders_keep_the_rule}
 use Rattle.outcome.proofs.EndsLemmas.{done_none, done_or_open, no_part, none_added, open_some, IsWhole, Ways, ways}
-use Rattle.outcome.specs.Answer.{Answer, finished, refusal, status_of_count, usage_answer}
+use Rattle.outcome.specs.Answer.{Answer, finished, refusal, status_of_count}
 use Rattle.outcome.specs.Ends.{EndsAs}
 use Rattle.outcome.specs.Streams.{Stream, Streams}
 use Rattle.outcome.specs.declared.status.Status.{Status}
@@ -19,8 +19,8 @@ use Rattle.agenda_list.specs.Agenda.{agenda_text}
 use Rattle.order_calendar.proofs.AgainLemmas.{calendars_are_read_again as all_are_read_again}
 use Rattle.order_calendar.specs.Calendar.{calendar_of}
 use Rattle.order_covering.specs.Covering.{covering_of}
-use Rattle.order_reader.specs.Asked.{Asked}
-use Rattle.order_reader.specs.Line.{order_line}
+use Rattle.order_rule.specs.Asked.{Asked}
+use Rattle.order_text.specs.Line.{order_line}
 use Rattle.order_table.specs.Table.{front_text, table_text}
 use Rattle.order_table.specs.Trees.{table_of, undecided}
 use Rattle.set_reader.proofs.SetLaws.{sets_keep_the_rule}
@@ -31,6 +31,7 @@ use Rattle.shown_table.specs.declared.bad.BadLine.{BadLine}
 use Rattle.timetable.specs.Answer.{answer_to, calendar_answer, covering_answer, order_answer, set_answer, table_answer, wanted_by}
 use Rattle.timetable.specs.Ended.{Ended}
 use Rattle.timetable.specs.Laws.{CalendarsAreReadAgain, CalendarsAreRefusedForCause, CoveringsAreRefusedForCause, IsACalendar, IsIcalRefused, IsNoCalendar, ReadsACalendar, WrongCalendarsAreRefused, EndedBy, IsACovering, IsCoverRefused, IsNoCovering, ReadsACovering, WrongCoveringsAreRefused, FinishedRunsWroteTheAnswer, IsAnOrder, IsFinished, IsNoOrder, IsOfOrders, IsRefused, IsUsage, OrdersAreRefusedForCause, ReadsAnOrder, RightWordsAreAnswered, SetsAreRight, TablesAreRight, ToldBytesDecide, UsageIsForWrongWords, WrongOrdersAreRefused, WrongWordsAreRefused, undecided_by}
+use Rattle.command_words.specs.Usage.{usage_line}
 use Rattle.command_words.specs.declared.command.Command.{Command}
 use Rattle.command_words.specs.declared.command.Command.TheVariants.{Unknown, Sun, Order, Plain, Table, Cover, Check, Demo, Ical, Agenda, Set}
 
@@ -39,7 +40,7 @@ use Rattle.command_words.specs.declared.command.Command.TheVariants.{Unknown, Su
 -- wrong words
 record IsWrong (command : Command) (input : Input) : Type 0 where
   pub words : command ≡ Unknown
-  pub answer : answer_to command input ≡ usage_answer
+  pub answer : answer_to command input ≡ refusal Usage usage_line
 
 -- no order, where one is read
 record IsNone (command : Command) (input : Input) : Type 0 where
@@ -217,9 +218,9 @@ usage_is_for_wrong_words command before after run = by (kind_of run) where
 
 pub wrong_words_are_refused : WrongWordsAreRefused
 wrong_words_are_refused status before after run =
-    by (ways usage_answer status before.source after.source before.out after.out run.ends)
+    by (ways (refusal Usage usage_line) status before.source after.source before.out after.out run.ends)
   where
-    by : Ways usage_answer status before.source after.source before.out after.out → IsUsage status before after
+    by : Ways (refusal Usage usage_line) status before.source after.source before.out after.out → IsUsage status before after
     by (inl whole) = record { answered = inl whole.is; unread = run.leaves.0; unwritten = whole.added }
     by (inr (inl no_read)) = absurd (run.leaves.1 no_read.is)
     by (inr (inr (inl cut))) = absurd (no_part before.out after.out cut.added)
@@ -230,7 +231,7 @@ pub orders_are_refused_for_cause : OrdersAreRefusedForCause
 unfolding EndsAs
 orders_are_refused_for_cause command before after run = by (kind_of run) where
   by : Kinds command run.input → IsRefused command run.input before after
-  by (inl wrong) = let same = (ends_as run usage_answer wrong.answer).0 in absurd cc
+  by (inl wrong) = let same = (ends_as run (refusal Usage usage_line) wrong.answer).0 in absurd cc
   by (inr (inl none)) = record {
     reads = none.reads;
     cause = none.cause;
@@ -287,7 +288,7 @@ pub coverings_are_refused_for_cause : CoveringsAreRefusedForCause
 unfolding EndsAs
 coverings_are_refused_for_cause command before after run = by (kind_of run) where
   by : Kinds command run.input → IsCoverRefused command run.input before after
-  by (inl wrong) = let same = (ends_as run usage_answer wrong.answer).0 in absurd cc
+  by (inl wrong) = let same = (ends_as run (refusal Usage usage_line) wrong.answer).0 in absurd cc
   by (inr (inl none)) = let same = (ends_as run (refusal OrderRefused none.line) none.answer).0 in absurd cc
   by (inr (inr (inl bad))) = record {
     reads = bad.reads;
@@ -335,7 +336,7 @@ pub calendars_are_refused_for_cause : CalendarsAreRefusedForCause
 unfolding EndsAs
 calendars_are_refused_for_cause command before after run = by (kind_of run) where
   by : Kinds command run.input → IsIcalRefused command run.input before after
-  by (inl wrong) = let same = (ends_as run usage_answer wrong.answer).0 in absurd cc
+  by (inl wrong) = let same = (ends_as run (refusal Usage usage_line) wrong.answer).0 in absurd cc
   by (inr (inl none)) = let same = (ends_as run (refusal OrderRefused none.line) none.answer).0 in absurd cc
   by (inr (inr (inl bad))) = let same = (ends_as run (cover_refusal bad.text bad.line) bad.answer).0 in absurd cc
   by (inr (inr (inr (inl list)))) = record {
@@ -377,23 +378,25 @@ wrong_calendars_are_refused command status before after run reads wrong = by (ki
       by_line list.line (ways (refusal IcalRefused list.line) status _ _ _ _ (ends_as run (refusal IcalRefused list.line) list.answer))
   by (inr (inr (inr (inr text)))) = absurd (not_listed run.input (text.listed reads) wrong)
 
+-- how a run ends whose answer is a text, where no fault was counted
+pub answered_whole : (n : ℕ) (text : List ℕ) (status : Status) (before after : Streams) →
+    (Rose before.source.faults after.source.faults → ⊥) → (Rose before.out.faults after.out.faults → ⊥) →
+    Ways (finished n text) status before.source after.source before.out after.out → (status ≡ Done) ⊎ (status ≡ StatusOpen) ⊎ (status ≡ NoMemory)
+answered_whole n text status before after no_rise no_rise_out (inl whole) =
+    elim (done_or_open n) [ inl done ↦ inl (whole.is ∙ done) | inr undecided ↦ inr (inl (whole.is ∙ undecided)) ]
+answered_whole n text status before after no_rise no_rise_out (inr (inl no_read)) = absurd (no_rise no_read.rose)
+answered_whole n text status before after no_rise no_rise_out (inr (inr (inl cut))) = absurd (no_rise_out cut.rose)
+answered_whole n text status before after no_rise no_rise_out (inr (inr (inr dry))) = inr (inr dry.is)
+
 pub right_words_are_answered : RightWordsAreAnswered
 right_words_are_answered command status before after run known accepted shown listed no_rise no_rise_out = by (kind_of run) where
-  by_text : (n : ℕ) (text : List ℕ) → Ways (finished n text) status before.source after.source before.out after.out →
-      (status ≡ Done) ⊎ (status ≡ StatusOpen) ⊎ (status ≡ NoMemory)
-  by_text n text (inl whole) =
-      elim (done_or_open n) [ inl done ↦ inl (whole.is ∙ done) | inr undecided ↦ inr (inl (whole.is ∙ undecided)) ]
-  by_text n text (inr (inl no_read)) = absurd (no_rise no_read.rose)
-  by_text n text (inr (inr (inl cut))) = absurd (no_rise_out cut.rose)
-  by_text n text (inr (inr (inr dry))) = inr (inr dry.is)
-
   by : Kinds command run.input → (status ≡ Done) ⊎ (status ≡ StatusOpen) ⊎ (status ≡ NoMemory)
   by (inl unknown) = absurd (known unknown.words)
   by (inr (inl none)) = absurd (not_both run.input (accepted none.reads) none.cause)
   by (inr (inr (inl bad))) = absurd (not_shown run.input (shown bad.reads) bad.cause)
   by (inr (inr (inr (inl list)))) = absurd (not_listed run.input (listed list.reads) list.cause)
   by (inr (inr (inr (inr text)))) =
-      by_text (undecided_by command run.input) text.text
+      answered_whole (undecided_by command run.input) text.text status before after no_rise no_rise_out
       (ways (finished (undecided_by command run.input) text.text) status _ _ _ _
       (ends_as run (finished (undecided_by command run.input) text.text) text.answer))
 
@@ -402,7 +405,7 @@ is_no_other : (status other : Status) → (status ≡ Done) ⊎ (status ≡ Stat
 is_no_other status other (inl done) not_done not_open same = not_done (sym same ∙ done)
 is_no_other status other (inr undecided) not_done not_open same = not_open (sym same ∙ undecided)
 
-finished_is_whole : (a : Answer) (status : Status) (source source' out out' : Stream) → (status ≡ Done) ⊎ (status ≡ StatusOpen) →
+pub finished_is_whole : (a : Answer) (status : Status) (source source' out out' : Stream) → (status ≡ Done) ⊎ (status ≡ StatusOpen) →
     Ways a status source source' out out' → IsWhole a status out out'
 finished_is_whole a status source source' out out' is (inl whole) = whole
 finished_is_whole a status source source' out out' is (inr (inl no_read)) = absurd (is_no_other status ReadFault is (λ e. cc) (λ e. cc) no_read.is)
@@ -423,7 +426,7 @@ finished_runs_wrote_the_answer command status before after run is = by (kind_of 
   whole_as a same = finished_is_whole a status _ _ _ _ is (ways a status _ _ _ _ (ends_as run a same))
 
   by : Kinds command run.input → IsFinished command status run.input before after
-  by (inl unknown) = absurd (is_no_other status Usage is (λ e. cc) (λ e. cc) (whole_as usage_answer unknown.answer).is)
+  by (inl unknown) = absurd (is_no_other status Usage is (λ e. cc) (λ e. cc) (whole_as (refusal Usage usage_line) unknown.answer).is)
   by (inr (inl none)) =
       absurd (is_no_other status OrderRefused is (λ e. cc) (λ e. cc) (whole_as (refusal OrderRefused none.line) none.answer).is)
   by (inr (inr (inl bad))) =
@@ -454,10 +457,10 @@ told_bytes_decide command status before after bytes input run told spelled =
     subst (λ (i : Input). EndedBy command status i before after) same (record { ends = run.ends; reports = run.reports })
 
 pub tables_are_right : TablesAreRight
-tables_are_right bytes o reads = all_tables_are_right o (orders_keep_the_rule.of_an_order bytes o reads)
+tables_are_right bytes o reads = all_tables_are_right o (orders_keep_the_rule bytes o reads)
 
 pub sets_are_right : SetsAreRight
 sets_are_right bytes s reads = all_sets_are_right s (sets_keep_the_rule bytes s reads)
 
 pub calendars_are_read_again : CalendarsAreReadAgain
-calendars_are_read_again bytes o reads = all_are_read_again o (orders_keep_the_rule.of_an_order bytes o reads)
+calendars_are_read_again bytes o reads = all_are_read_again o (orders_keep_the_rule bytes o reads)

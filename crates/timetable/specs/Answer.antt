@@ -3,6 +3,7 @@ use Rattle.std.specs.Prelude.{ℕ, List}
 use Rattle.agenda_list.specs.Agenda.{agenda_answer}
 use Rattle.command_input.specs.Answers.{answer_by, answer_listed, answer_shown, answer_together}
 use Rattle.command_input.specs.Input.{Input, Wanted, a_calendar, a_covering, a_set, an_order, nothing}
+use Rattle.command_words.specs.Usage.{usage_line}
 use Rattle.command_words.specs.Words.{command_of}
 use Rattle.command_words.specs.declared.command.Command.{Command}
 use Rattle.command_words.specs.declared.command.Command.TheVariants.{Unknown, Sun, Order, Plain, Table, Cover, Check, Demo, Ical, Agenda, Set}
@@ -11,10 +12,11 @@ use Rattle.demo_summary.specs.Summary.{summary_line}
 use Rattle.order_calendar.specs.Calendar.{calendar_of}
 use Rattle.order_covering.specs.Covering.{covering_of}
 use Rattle.order_covering.specs.declared.form.Form.{Form}
-use Rattle.order_reader.specs.Asked.{Asked}
-use Rattle.order_reader.specs.Line.{order_line}
+use Rattle.order_rule.specs.Asked.{Asked}
+use Rattle.order_text.specs.Line.{order_line}
 use Rattle.order_table.specs.Trees.{table_of, undecided}
-use Rattle.outcome.specs.Answer.{Answer, finished, usage_answer}
+use Rattle.outcome.specs.Answer.{Answer, finished, refusal}
+use Rattle.outcome.specs.declared.status.Status.TheVariants.{Usage}
 use Rattle.set_reader.specs.Asked.{SetAsked}
 use Rattle.set_table.specs.Trees as sets
 use Rattle.shown_table.specs.Shown.{shown_answer}
@@ -62,7 +64,7 @@ abbrev pub demo_answer : ℕ → Answer
 demo_answer number = finished (undecided (demo_asked number)) (summary_line number)
 
 abbrev pub answer_to : Command → Input → Answer
-answer_to Unknown input = usage_answer
+answer_to Unknown input = refusal Usage usage_line
 answer_to (Sun r) input = sun_answer r
 answer_to Order input = answer_by order_answer input
 answer_to Plain input = answer_by table_answer input

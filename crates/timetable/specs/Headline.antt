@@ -4,7 +4,7 @@ use Rattle.command_input.specs.Input.{IsSpelledBy, ReadsCalendar, a_covering, a_
 use Rattle.command_words.specs.declared.command.Command.{Command}
 use Rattle.command_words.specs.declared.command.Command.TheVariants.{Check, Ical, Plain, Set, Table}
 use Rattle.order_calendar.specs.Calendar.{calendar_of, events_of}
-use Rattle.order_reader.specs.Asked.{Asked}
+use Rattle.order_rule.specs.Asked.{Asked}
 use Rattle.order_table.specs.RightTable.{IsRightFor, IsRightTable}
 use Rattle.order_table.specs.Table.{days_undecided, table_text}
 use Rattle.order_table.specs.Trees.{table_of, undecided}

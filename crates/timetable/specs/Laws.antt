@@ -1,9 +1,11 @@
 -- What follows from a run's ending for its words, its input and its streams.
-use Rattle.std.specs.Prelude.{◌≡◌, ◌≢◌, ◌⊎◌, ℕ, List, [], Some, None, Ok, Err}
-use Rattle.command_input.specs.Input.{Input, IsSpelled, ReadsCalendar, Wanted, a_calendar, a_covering, a_set, an_order, calendar, covering, nothing, order, read, set, too_long}
+use Rattle.std.specs.Prelude.{◌≡◌, ◌≢◌, ◌⊎◌, ◌≤◌, ℕ, List, [], length, Some, None, Ok, Err}
+use Rattle.command_input.specs.Input.{Input, IsSpelled, ReadsCalendar, Wanted, a_calendar, a_covering, a_set, an_order, calendar, covering, limit_of, nothing, order, read, set, too_long}
 use Rattle.order_calendar.specs.Calendar.{calendar_of, events_of}
-use Rattle.order_reader.specs.Asked.{Asked}
+use Rattle.order_covering.specs.Covering.{covering_of}
+use Rattle.order_covering.specs.declared.form.Form.{Form}
 use Rattle.order_reader.specs.Reads.{ReadsOrder}
+use Rattle.order_rule.specs.Asked.{Asked}
 use Rattle.outcome.specs.Answer.{line_of}
 use Rattle.outcome.specs.Ends.{EndsAs, Reports}
 use Rattle.outcome.specs.Streams.{Streams}
@@ -22,7 +24,7 @@ use Rattle.sun_verdict.specs.Line.{undecided_in}
 use Rattle.timetable.specs.Answer.{answer_to, wanted_by}
 use Rattle.timetable.specs.Ended.{Ended}
 use Rattle.order_table.specs.RightTable.{IsRightTable}
-use Rattle.order_table.specs.Trees.{undecided}
+use Rattle.order_table.specs.Trees.{table_of, undecided}
 use Rattle.command_words.specs.declared.command.Command.{Command}
 use Rattle.command_words.specs.declared.command.Command.TheVariants.{Unknown, Sun, Plain, Table, Cover, Check, Demo, Ical, Set}
 
@@ -212,3 +214,19 @@ SetsAreRight = (bytes : List ℕ) (s : SetAsked) → ReadsSet bytes (Ok s) → I
 -- column's word and its UID.
 abbrev pub CalendarsAreReadAgain : Type 0
 CalendarsAreReadAgain = (bytes : List ℕ) (o : Asked) → ReadsOrder bytes (Ok o) → ReadsCalendar (calendar_of o) (Ok (events_of o))
+
+-- A run of `check` over exactly the covering of an order ended by the order's table, as `plain` does over the order itself: Done or
+-- Open with the table written, counted faults and want of memory aside.
+pub record IsShownAgain (o : Asked) (status : Status) (before after : Streams) : Type 0 where
+  pub answered : (Rose before.source.faults after.source.faults → ⊥) → (Rose before.out.faults after.out.faults → ⊥) →
+      (status ≡ Done) ⊎ (status ≡ Open) ⊎ (status ≡ NoMemory)
+  pub written : (status ≡ Done) ⊎ (status ≡ Open) → Adds before.out.bytes after.out.bytes (table_of o)
+  pub decided : status ≡ Done → undecided o ≡ 0
+  pub undecided : status ≡ Open → undecided o ≢ 0
+
+-- The covering that is written for an order, in either form, where a covering may be so long.
+abbrev pub CoveringsAreShownAgain : Type 0
+CoveringsAreShownAgain =
+    (bytes : List ℕ) (o : Asked) → ReadsOrder bytes (Ok o) → (form : Form) → length (covering_of form o) ≤ limit_of a_covering →
+    (status : Status) (before after : Streams) → Ended Check status before after → before.source.bytes ≡ Some (covering_of form o) →
+    IsShownAgain o status before after

@@ -1,7 +1,7 @@
 -- What the laws say of a run over bytes in memory, where no fault is counted.
 use Rattle.std.specs.Prelude.{◌≡◌, ◌≢◌, ◌⊎◌, ℕ, List, Ok}
 use Rattle.command_input.specs.Input.{Input, IsSpelled, an_order, order, read}
-use Rattle.order_reader.specs.Asked.{Asked}
+use Rattle.order_rule.specs.Asked.{Asked}
 use Rattle.order_table.specs.RightTable.{IsRightTable}
 use Rattle.outcome.specs.Streams.{Streams}
 use Rattle.outcome.specs.declared.status.Status.{Status}

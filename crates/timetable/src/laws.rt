@@ -1,5 +1,5 @@
 // What follows from how a run ended. Each law is the contract of a function that does nothing.
-ghost use Rattle.timetable.specs.Laws.{CalendarsAreReadAgain, CalendarsAreRefusedForCause, CoveringsAreRefusedForCause, FinishedRunsWroteTheAnswer, OrdersAreRefusedForCause, RightWordsAreAnswered, SetsAreRight, TablesAreRight, ToldBytesDecide, UsageIsForWrongWords, WrongCalendarsAreRefused, WrongCoveringsAreRefused, WrongOrdersAreRefused, WrongWordsAreRefused};
+ghost use Rattle.timetable.specs.Laws.{CalendarsAreReadAgain, CalendarsAreRefusedForCause, CoveringsAreRefusedForCause, CoveringsAreShownAgain, FinishedRunsWroteTheAnswer, OrdersAreRefusedForCause, RightWordsAreAnswered, SetsAreRight, TablesAreRight, ToldBytesDecide, UsageIsForWrongWords, WrongCalendarsAreRefused, WrongCoveringsAreRefused, WrongOrdersAreRefused, WrongWordsAreRefused};
 
 /// A run is ended by `Usage` only where the words are wrong.
 pub fn usage_is_for_wrong_words()
@@ -73,4 +73,10 @@ pub fn sets_are_right()
 /// its moment in Universal Time, its column's word and its UID.
 pub fn calendars_are_read_again()
     ensures { CalendarsAreReadAgain }
+{}
+
+/// The covering that `cover` writes for an order, in either form, is answered by `check` as the order is by `plain`: by `Done` or
+/// `Open` with the order's table written, counted faults and want of memory aside.
+pub fn coverings_are_shown_again()
+    ensures { CoveringsAreShownAgain }
 {}

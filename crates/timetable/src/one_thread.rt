@@ -11,7 +11,7 @@ ghost use Rattle.timetable.specs.Answer.{answer_to, wanted_by};
 use crate::orders::write_line;
 use agenda_list::write_agenda;
 use command_input::{Covering, calendar_from, covering_from, order_from};
-use command_words::{Command, command_in};
+use command_words::{Command, command_in, wrong_words};
 use order_table::write_table;
 use outcome::{Ending, Status, ending_of};
 use shown_table::write_shown;
@@ -51,7 +51,7 @@ pub(crate) fn answer<S: Source, K: Sink>(
         | Command::Cover { .. }
         | Command::Demo { .. }
         | Command::Ical { .. }
-        | Command::Set { .. } => Ending::Plain(Status::Usage),
+        | Command::Set { .. } => wrong_words(alloc),
         Command::Sun(request) => ending_of(write_verdict(alloc, &request, out)),
         Command::Order => match order_from(alloc, source) {
             Ok(order) => ending_of(write_line(alloc, &order, out)),

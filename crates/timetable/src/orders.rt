@@ -1,10 +1,11 @@
 // The commands that read an order.
 ghost use Rattle.std.specs.Prelude.{IfOk, ◌≡◌};
-ghost use Rattle.order_reader.specs.Asked.{asked_of};
-ghost use Rattle.order_reader.specs.Line.{order_line};
+ghost use Rattle.order_rule.specs.Asked.{asked_of};
+ghost use Rattle.order_text.specs.Line.{order_line};
 ghost use Rattle.outcome.specs.Writing.{Writes};
 
-use order_reader::{Order, order_line};
+use order_rule::Order;
+use order_text::order_line;
 use outcome::{Stop, write_text};
 use source_sink::Sink;
 use std::alloc::Global;

@@ -2,8 +2,6 @@
 ghost use Rattle.std.specs.Prelude.{◌≡◌, map, string_bytes};
 ghost use Rattle.command_input.specs.Answers.{Answers};
 ghost use Rattle.command_words.specs.Words.{IsCommand, command_of, without_workers};
-ghost use Rattle.outcome.specs.Endings.{line_of_ending, status_of_ending};
-ghost use Rattle.outcome.specs.Ends.{Reports};
 ghost use Rattle.outcome.specs.Streams.{stream, streams};
 ghost use Rattle.sun_verdict.specs.Truth.{IsTrueOfSky};
 ghost use Rattle.timetable.specs.Answer.{answer_to, wanted_by};
@@ -18,7 +16,7 @@ use order_calendar::write_calendar;
 use order_covering::write_covering;
 use outcome::{Ending, Status, ending_of};
 use set_table::write_set;
-use source_sink::{Sink, Source, write_all};
+use source_sink::{Sink, Source};
 use std::alloc::Global;
 use std::sync::Wait;
 use std::thread::Threads;
@@ -88,15 +86,6 @@ fn answer_words<R: Threads + Wait + Sync, S: Source, K: Sink, G: Gate + Sync>(
     }
 }
 
-/// Writes the line of an ending, and passes a fault over; answers the status.
-fn report<E: Sink>(ending: &Ending, err: &mut E) -> Status
-    ensures status { result ≡ status_of_ending ending.now }
-    ensures reports { Reports (line_of_ending ending.now) (stream (E.held err.old) (E.faults err.old)) (stream (E.held err.new) (E.faults err.new)) }
-{
-    let _ = write_all(err, ending.line().as_bytes());
-    ending.status()
-}
-
 /// Runs the words of a command line, without the program's name; `table`, `cover`, `demo`, `ical` and `set` are searched by
 /// several workers at the same time.
 ///
@@ -150,7 +139,7 @@ pub fn run<R: Threads + Wait + Sync, S: Source, K: Sink, E: Sink, G: Gate + Sync
     ensures truth { (r : Request) → command_of (map string_bytes words.now) ≡ Command.Sun r → IsTrueOfSky r }
 {
     let ending = answer_words(rt, alloc, words, source, out, gate);
-    report(&ending, err)
+    ending.report(err)
 }
 
 /// Runs the words of a command line, without the program's name, on one thread.
@@ -181,5 +170,5 @@ pub fn run_plain<S: Source, K: Sink, E: Sink>(
     ensures truth { (r : Request) → command_of (map string_bytes words.now) ≡ Command.Sun r → IsTrueOfSky r }
 {
     let ending = one_thread::answer_words(alloc, words, source, out);
-    report(&ending, err)
+    ending.report(err)
 }

@@ -1,7 +1,7 @@
 use Rattle.std.proofs.Common.{List, ℕ, Ok, Err, ap, sym, ◌∙◌, subst, inl, inr, refl}
-use Rattle.order_reader.specs.Asked.{asked_of}
-use Rattle.order_reader.specs.Reads.{ReadsLine}
-use Rattle.order_reader.specs.declared.order.Order.{Order}
+use Rattle.order_rule.specs.Asked.{asked_of}
+use Rattle.order_rule.specs.declared.order.Order.{Order}
+use Rattle.order_text.specs.LineReading.{ReadsLine}
 use Rattle.command_input.specs.Input.{a_covering, covering}
 use Rattle.command_input.specs.Lines.{behind_line, first_line}
 use Rattle.command_input.specs.Taken.{covered_of, of_coverings}

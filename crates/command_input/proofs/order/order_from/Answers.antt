@@ -1,6 +1,6 @@
 use Rattle.std.proofs.Common.{List, ℕ, Ok, Err, subst, inl, inr, refl}
-use Rattle.order_reader.specs.Asked.{asked_of}
 use Rattle.order_reader.specs.Reads.{ReadsOrder}
+use Rattle.order_rule.specs.Asked.{asked_of}
 use Rattle.command_input.specs.Input.{an_order, order}
 use Rattle.command_input.specs.Taken.{of_orders}
 use Rattle.command_input.proofs.InputLemmas.{read_long, read_not, read_refused, read_whole, some_order}

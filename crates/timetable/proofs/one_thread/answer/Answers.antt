@@ -7,7 +7,7 @@ use Rattle.timetable.proofs.one_thread.answer.Goals as goal
 
 pub returns-in-Unknown : goal.returns-in-Unknown
 returns-in-Unknown g c =
-    unknown_answers _ _ _ (elim c.in-Unknown.is [
+    unknown_answers _ _ _ _ (elim c.in-Unknown.is [
       | inl unknown ↦ ap without_workers unknown
       | inr more ↦ elim more [
         | inl table ↦ ap without_workers table.1
@@ -19,7 +19,7 @@ returns-in-Unknown g c =
           ]
         ]
       ]
-    ])
+    ]) c.wrong_words.ensures
 
 pub returns-in-Sun : goal.returns-in-Sun
 returns-in-Sun g c =

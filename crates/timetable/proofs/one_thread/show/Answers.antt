@@ -1,7 +1,7 @@
 use Rattle.std.proofs.Common.{◌≡◌, ◌-◌, ℕ, List, ap, drop, length, subst, sym, take, ◌∙◌}
 use Rattle.std.proofs.Math.Seq.{take-length}
 use Rattle.std.proofs.lemmas.List.{length-drop}
-use Rattle.order_reader.specs.Asked.{asked_of}
+use Rattle.order_rule.specs.Asked.{asked_of}
 use Rattle.outcome.specs.Endings.{EndsBy}
 use Rattle.outcome.specs.Streams.{stream}
 use Rattle.shown_table.specs.Shown.{shown_answer}
