@@ -14,3 +14,5 @@ mod series;
 mod shadows;
 #[cfg(test)]
 mod suns;
+#[cfg(test)]
+mod vectors;

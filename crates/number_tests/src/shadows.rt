@@ -1,12 +1,7 @@
 // The Asr value against vectors that an independent program computed in whole numbers.
-use altitude_test::Place;
+use crate::vectors::{Ends, ends, minutes, place};
 use asr_test::asr_value;
-use fixed_interval::Interval;
-use solar_terms::Minutes;
 use solar_terms::observatory::sun;
-use std::process::Abort;
-
-type Ends = (i128, i128);
 
 // Minutes, a box of places, and the ends of the value for the factors 1 and 2: at the limits of minutes, longitudes and
 // latitudes, over 720 minutes and 4 degrees, and across a seam of the series.
@@ -107,28 +102,6 @@ const VALUES: [((i64, i64), (i64, i64, i64, i64), [Ends; 2]); 10] = [
         ],
     ),
 ];
-
-fn minutes(rt: &impl Abort, (first, last): (i64, i64)) -> Minutes {
-    assert!(rt; -53_200_000 <= first && first <= last && last <= 53_200_000);
-    assert!(rt; last - first <= 720);
-    Minutes::new(first, last)
-}
-
-fn place(rt: &impl Abort, (x0, x1, y0, y1): (i64, i64, i64, i64)) -> Place {
-    assert!(rt; -47_000_000_000 <= x0);
-    assert!(rt; x0 <= x1);
-    assert!(rt; x1 <= 47_000_000_000);
-    assert!(rt; -8_900_000_000 <= y0);
-    assert!(rt; y0 <= y1);
-    assert!(rt; y1 <= 8_900_000_000);
-    assert!(rt; x1 - x0 <= 536_870_912);
-    assert!(rt; y1 - y0 <= 536_870_912);
-    Place::new(x0, x1, y0, y1)
-}
-
-fn ends(a: Interval) -> Ends {
-    (a.lo, a.hi)
-}
 
 #[test]
 fn values_are_those_of_the_vectors(rt: HostRuntime) {

@@ -1,11 +1,8 @@
 // The suns against vectors that an independent program computed in whole numbers.
-use fixed_interval::Interval;
+use crate::vectors::{Ends, ends, minutes};
 use meeus_terms::meeus_sun;
+use solar_terms::Sun;
 use solar_terms::observatory::sun;
-use solar_terms::{Minutes, Sun};
-use std::process::Abort;
-
-type Ends = (i128, i128);
 
 // Minutes, and the ends of sin L, cos L, sin e, cos e and q: at the epoch, at both limits of the minutes, over 720 minutes
 // at each limit, across a seam of the series, and at two minutes of a year.
@@ -225,16 +222,6 @@ const MEEUS_SUNS: [((i64, i64), [Ends; 5]); 11] = [
         ],
     ),
 ];
-
-fn minutes(rt: &impl Abort, (first, last): (i64, i64)) -> Minutes {
-    assert!(rt; -53_200_000 <= first && first <= last && last <= 53_200_000);
-    assert!(rt; last - first <= 720);
-    Minutes::new(first, last)
-}
-
-fn ends(a: Interval) -> Ends {
-    (a.lo, a.hi)
-}
 
 fn terms(s: Sun) -> [Ends; 5] {
     [

@@ -1,36 +1,19 @@
-// Runs of the top call, and what they answer.
-use run_samples::{sink, source, words_of};
-use source_sink::{MemSink, Source};
+// What runs of the top call answer.
+use run_samples::{Answer, ORDER_B, USAGE, answer_to};
 use std::process::Abort;
 use std::sync::Wait;
 use std::test::Fail;
 use std::thread::Threads;
-use steal_pool::OpenGate;
-use timetable::{Status, run};
+use timetable::Status;
 
-/// Runs the words of a line.
-pub(crate) fn run_line<R: Threads + Wait + Sync + AllocGlobal, S: Source>(
-    rt: &R,
-    line: &str,
-    source: &mut S,
-    out: &mut MemSink,
-    err: &mut MemSink,
-) -> Result<Status, Fail> {
-    let words = words_of(rt.alloc(), line)?;
-    Ok(run(rt, rt.alloc(), &words, source, out, err, &OpenGate))
-}
-
-/// The status of the words of a line over an input, and what they write to each stream.
-pub(crate) fn answer<R: Threads + Wait + Sync + AllocGlobal>(
-    rt: &R,
-    line: &str,
-    input: &[u8],
-) -> Result<(Status, MemSink, MemSink), Fail> {
-    let mut source = source(rt.alloc(), input)?;
-    let mut out = sink(rt.alloc(), 60_000, &[])?;
-    let mut err = sink(rt.alloc(), 300, &[])?;
-    let status = run_line(rt, line, &mut source, &mut out, &mut err)?;
-    Ok((status, out, err))
+/// A run, by its words or another name, answered this.
+pub(crate) fn expect_told(
+    rt: &impl Abort,
+    run: &str,
+    answer: &Answer,
+    wanted: (Status, &str, &str),
+) {
+    assert_eq!(rt; (run, answer.told()), (run, wanted));
 }
 
 /// The status of the words over the input, and all that they write.
@@ -42,9 +25,52 @@ pub(crate) fn expect<R: Threads + Wait + Sync + Abort + AllocGlobal>(
     out: &str,
     err: &str,
 ) -> Result<(), Fail> {
-    let (found, written, reported) = answer(rt, line, input)?;
-    assert_eq!(rt; found, status, "at {line}, wanted {out}{err}");
-    assert_eq!(rt; written.bytes(), out.as_bytes(), "at {line}, wanted {out}");
-    assert_eq!(rt; reported.bytes(), err.as_bytes(), "at {line}, wanted {err}");
+    let answer = answer_to(rt, line, input)?;
+    expect_told(rt, line, &answer, (status, out, err));
     Ok(())
+}
+
+/// The words get the text.
+pub(crate) fn expect_text<R: Threads + Wait + Sync + Abort + AllocGlobal>(
+    rt: &R,
+    line: &str,
+    input: &[u8],
+    text: &str,
+) -> Result<(), Fail> {
+    expect(rt, line, input, Status::Done, text, "")
+}
+
+/// Each of these lines of words gets the text.
+pub(crate) fn expect_texts<R: Threads + Wait + Sync + Abort + AllocGlobal>(
+    rt: &R,
+    lines: &[&str],
+    input: &[u8],
+    text: &str,
+) -> Result<(), Fail> {
+    for line in lines {
+        expect_text(rt, line, input, text)?;
+    }
+    Ok(())
+}
+
+/// Each of these lines of words is refused.
+pub(crate) fn expect_usage<R: Threads + Wait + Sync + Abort + AllocGlobal>(
+    rt: &R,
+    lines: &[&str],
+) -> Result<(), Fail> {
+    for line in lines {
+        expect(rt, line, ORDER_B.as_bytes(), Status::Usage, "", USAGE)?;
+    }
+    Ok(())
+}
+
+/// The covering that the words write of an order shows the table.
+pub(crate) fn expect_covered<R: Threads + Wait + Sync + Abort + AllocGlobal>(
+    rt: &R,
+    line: &str,
+    order: &[u8],
+    table: &str,
+) -> Result<(), Fail> {
+    let covering = answer_to(rt, line, order)?;
+    expect_text(rt, "check", covering.out.bytes(), table)
 }

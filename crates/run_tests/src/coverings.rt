@@ -1,7 +1,8 @@
 // The commands `cover`, `check` and `demo`.
-use crate::common::answer;
+use crate::common::{expect, expect_covered, expect_text, expect_usage};
+use crate::hostile::HEAD;
 use crate::workers::{DISTRICT, MEMBERS};
-use run_samples::{ORDER_B, TABLE_B, order_over};
+use run_samples::{ORDER_B, TABLE_B, answer_to, order_over, text_of};
 use std::alloc::{AllocError, Global};
 use std::process::Abort;
 use std::sync::Wait;
@@ -75,39 +76,40 @@ fn covering_with(alloc: Global, number: usize, line: &str) -> Result<String, All
     Ok(text)
 }
 
+const WRONG_LINES: [&str; 5] = [
+    "cover --form 3",
+    "cover --form",
+    "cover --runs",
+    "check now",
+    "demo --number 4294967296",
+];
+
 #[test]
 fn an_order_gets_its_covering(rt: HostRuntime) -> Result<(), Fail> {
-    let wanted = covering_with(rt.alloc(), 0, "")?;
-    let (status, out, _) = answer(&rt, "cover --form 1 --workers 3", ORDER_B.as_bytes())?;
-    assert_eq!(rt; status, Status::Done);
-    assert_eq!(rt; out.bytes(), wanted.as_bytes());
-    for line in [
-        "cover --form 3",
-        "cover --form",
-        "cover --runs",
-        "check now",
-    ] {
-        let (status, _, _) = answer(&rt, line, ORDER_B.as_bytes())?;
-        assert_eq!(rt; status, Status::Usage, "at {line}");
-    }
-    Ok(())
+    let covering = covering_with(rt.alloc(), 0, "")?;
+    let line = "cover --form 1 --workers 3";
+    expect_text(&rt, line, ORDER_B.as_bytes(), covering.as_str())?;
+    expect_usage(&rt, &WRONG_LINES)
+}
+
+/// Coverings of both forms show the table.
+fn expect_both_covered<R: Threads + Wait + Sync + Abort + AllocGlobal>(
+    rt: &R,
+    order: &[u8],
+    table: &str,
+) -> Result<(), Fail> {
+    expect_covered(rt, "cover", order, table)?;
+    expect_covered(rt, "cover --form 1", order, table)
 }
 
 #[test]
 fn a_covering_shows_its_table(rt: HostRuntime) -> Result<(), Fail> {
     let order = order_over(rt.alloc(), MEMBERS, DISTRICT)?;
-    let (_, plain, _) = answer(&rt, "plain", order.as_bytes())?;
-    for line in ["cover", "cover --form 1"] {
-        let (status, covering, _) = answer(&rt, line, order.as_bytes())?;
-        assert_eq!(rt; status, Status::Done, "at {line}");
-        let (status, out, _) = answer(&rt, "check", covering.bytes())?;
-        assert_eq!(rt; status, Status::Done, "at {line}");
-        assert_eq!(rt; out.bytes(), plain.bytes(), "at {line}");
-    }
-    Ok(())
+    let plain = answer_to(&rt, "plain", order.as_bytes())?;
+    expect_both_covered(&rt, order.as_bytes(), text_of(&plain.out))
 }
 
-/// Checks the covering with another line of this number: the whole table, or nothing but its head.
+/// The covering with another line of this number, which is refused with this fault: nothing but the table's head is shown.
 fn expect_fault<R: Threads + Wait + Sync + Abort + AllocGlobal>(
     rt: &R,
     number: usize,
@@ -115,62 +117,77 @@ fn expect_fault<R: Threads + Wait + Sync + Abort + AllocGlobal>(
     fault: &str,
 ) -> Result<(), Fail> {
     let covering = covering_with(rt.alloc(), number, line)?;
-    let (status, out, err) = answer(rt, "check", covering.as_bytes())?;
-    if fault.is_empty() {
-        assert_eq!(rt; status, Status::Done, "at {line}");
-        assert_eq!(rt; out.bytes(), TABLE_B.as_bytes(), "at {line}");
-        return Ok(());
+    let refusal = format!(in rt.alloc(); "cover refused line {number} {fault}\n")?;
+    let shown = if number == 1 { "" } else { HEAD };
+    expect(
+        rt,
+        "check",
+        covering.as_bytes(),
+        Status::CoverRefused,
+        shown,
+        refusal.as_str(),
+    )
+}
+
+/// Another line on Fajr, which shows the whole table, or is refused with this fault.
+fn expect_letters<R: Threads + Wait + Sync + Abort + AllocGlobal>(
+    rt: &R,
+    letters: &str,
+    fault: &str,
+) -> Result<(), Fail> {
+    let line = format!(in rt.alloc(); "{FAJR}{letters}}}")?;
+    if !fault.is_empty() {
+        return expect_fault(rt, 2, line.as_str(), fault);
     }
-    let wanted = format!(in rt.alloc(); "cover refused line {number} {fault}\n")?;
-    assert_eq!(rt; status, Status::CoverRefused, "at {line}");
-    assert_eq!(rt; err.bytes(), wanted.as_bytes(), "at {line}");
+    let covering = covering_with(rt.alloc(), 2, line.as_str())?;
+    expect_text(rt, "check", covering.as_bytes(), TABLE_B)
+}
+
+#[test]
+fn changed_letters_are_refused_at_their_place(rt: HostRuntime) -> Result<(), Fail> {
+    for (letters, fault) in &LETTERS {
+        expect_letters(&rt, letters, fault)?;
+    }
     Ok(())
 }
 
 #[test]
 fn a_changed_line_is_refused_at_its_place(rt: HostRuntime) -> Result<(), Fail> {
-    for (letters, fault) in LETTERS {
-        let line = format!(in rt.alloc(); "{FAJR}{letters}}}")?;
-        expect_fault(&rt, 2, line.as_str(), fault)?;
-    }
-    let tree = COVERING_B[1];
-    let point = format!(in rt.alloc(); "{}", tree.replace(rt.alloc(), "\"1\"]", "\"2\"]")?)?;
+    let point = COVERING_B[1].replace(rt.alloc(), "\"1\"]", "\"2\"]")?;
     expect_fault(&rt, 2, point.as_str(), "fault 7")?;
-    expect_fault(&rt, 3, tree, "fault 2")?;
+    expect_fault(&rt, 3, COVERING_B[1], "fault 2")?;
     expect_fault(&rt, 8, "", "fault 1")?;
     expect_fault(&rt, 1, "{}", "order 2 missing version")
 }
 
+/// The words of `demo`, and the summary that they get.
+const DEMOS: [(&str, &str); 5] = [
+    (
+        "demo",
+        "demo 1 positions 65 days 30 minutes 210 whole 0 never 0 open 0 sum 182588\n",
+    ),
+    (
+        "demo --workers 1 --number 1",
+        "demo 1 positions 65 days 30 minutes 210 whole 0 never 0 open 0 sum 182588\n",
+    ),
+    (
+        "demo --number 0",
+        "demo 0 positions 65 days 30 minutes 210 whole 0 never 0 open 0 sum 174962\n",
+    ),
+    (
+        "demo --number 77",
+        "demo 77 positions 65 days 30 minutes 210 whole 0 never 0 open 0 sum 166949\n",
+    ),
+    (
+        "demo --number 4294967295",
+        "demo 4294967295 positions 65 days 30 minutes 210 whole 0 never 0 open 0 sum 168975\n",
+    ),
+];
+
 #[test]
 fn a_made_order_is_summed_up(rt: HostRuntime) -> Result<(), Fail> {
-    let lines = [
-        (
-            "demo",
-            "demo 1 positions 65 days 30 minutes 210 whole 0 never 0 open 0 sum 182588\n",
-        ),
-        (
-            "demo --workers 1 --number 1",
-            "demo 1 positions 65 days 30 minutes 210 whole 0 never 0 open 0 sum 182588\n",
-        ),
-        (
-            "demo --number 0",
-            "demo 0 positions 65 days 30 minutes 210 whole 0 never 0 open 0 sum 174962\n",
-        ),
-        (
-            "demo --number 77",
-            "demo 77 positions 65 days 30 minutes 210 whole 0 never 0 open 0 sum 166949\n",
-        ),
-        (
-            "demo --number 4294967295",
-            "demo 4294967295 positions 65 days 30 minutes 210 whole 0 never 0 open 0 sum 168975\n",
-        ),
-    ];
-    for (line, wanted) in lines {
-        let (status, out, _) = answer(&rt, line, b"")?;
-        assert_eq!(rt; status, Status::Done, "at {line}");
-        assert_eq!(rt; out.bytes(), wanted.as_bytes(), "at {line}");
+    for (line, summary) in &DEMOS {
+        expect_text(&rt, line, b"", summary)?;
     }
-    let (status, _, _) = answer(&rt, "demo --number 4294967296", b"")?;
-    assert_eq!(rt; status, Status::Usage);
     Ok(())
 }

@@ -1,7 +1,10 @@
 // Reads, writes and reports that fail, through each command that has an input.
-use crate::common::{answer, expect, run_line};
-use run_samples::{ORDER_B, TABLE_B, sink, source};
-use source_sink::MemSource;
+use crate::common::{expect, expect_told};
+use no_memory::NoMemory;
+use run_samples::{
+    Answer, FIRST_DAYS, ORDER_B, TABLE_B, answer_to, run_line, sink, slow_source, source, text_of,
+};
+use source_sink::MemSink;
 use std::process::Abort;
 use std::sync::Wait;
 use std::test::Fail;
@@ -17,59 +20,93 @@ const READERS: [&str; 6] = [
     "check",
 ];
 
-/// Each call of a source of one byte a call fails in turn: nothing is written.
+/// Those that read an order.
+const ORDER_READERS: [&str; 5] = ["table --workers 2", "cover", "ical", "plain", "order"];
+
+/// A run over a stream with this number answered this.
+fn expect_told_at(
+    rt: &impl Abort,
+    (line, number): (&str, usize),
+    answer: &Answer,
+    wanted: (Status, &str, &str),
+) {
+    assert_eq!(rt; (line, number, answer.told()), (line, number, wanted));
+}
+
+/// The source's call of this number fails: nothing is written.
+fn expect_read_fault<R: Threads + Wait + Sync + Abort + AllocGlobal>(
+    rt: &R,
+    line: &str,
+    number: u32,
+) -> Result<(), Fail> {
+    let mut order = slow_source(rt.alloc(), ORDER_B.as_bytes(), &[number])?;
+    let (out, err) = (sink(rt.alloc(), 100, &[])?, sink(rt.alloc(), 100, &[])?);
+    let answer = run_line(rt, line, &mut order, out, err)?;
+    let wanted = (Status::ReadFault, "", "read fault\n");
+    expect_told_at(rt, (line, number as usize), &answer, wanted);
+    Ok(())
+}
+
+/// Each call of a source of one byte a call fails in turn.
 fn expect_read_faults<R: Threads + Wait + Sync + Abort + AllocGlobal>(
     rt: &R,
     line: &str,
 ) -> Result<(), Fail> {
-    for i in 1..ORDER_B.len() as u32 + 2 {
-        let bytes = ORDER_B.as_bytes().to_vec(rt.alloc())?;
-        let mut order = MemSource::new(bytes, vec![in rt.alloc(); i]?, 1);
-        let mut out = sink(rt.alloc(), 100, &[])?;
-        let mut err = sink(rt.alloc(), 100, &[])?;
-        let status = run_line(rt, line, &mut order, &mut out, &mut err)?;
-        assert_eq!(rt; status, Status::ReadFault, "{line} at call {i}");
-        assert_eq!(rt; out.bytes(), b"".as_slice(), "{line} at call {i}");
-        assert_eq!(rt;
-            err.bytes(),
-            b"read fault\n".as_slice(),
-            "{line} at call {i}"
-        );
+    for number in 1..ORDER_B.len() as u32 + 2 {
+        expect_read_fault(rt, line, number)?;
     }
     Ok(())
 }
 
-/// A sink of less room than the text holds the text's first bytes: each room below 250 bytes, some above.
+/// A sink with room for so many bytes holds as many of the text.
+fn expect_front<R: Threads + Wait + Sync + Abort + AllocGlobal>(
+    rt: &R,
+    line: &str,
+    input: &[u8],
+    text: &str,
+    capacity: usize,
+) -> Result<(), Fail> {
+    let mut source = source(rt.alloc(), input)?;
+    let (out, err) = (
+        sink(rt.alloc(), capacity, &[])?,
+        sink(rt.alloc(), 100, &[])?,
+    );
+    let answer = run_line(rt, line, &mut source, out, err)?;
+    let front = text.get(..capacity).unwrap_or(text);
+    let wanted = (Status::WriteFault, front, "write fault\n");
+    expect_told_at(rt, (line, capacity), &answer, wanted);
+    Ok(())
+}
+
+/// Sinks with less room than the text: each room below 250 bytes, some above.
+fn expect_fronts<R: Threads + Wait + Sync + Abort + AllocGlobal>(
+    rt: &R,
+    line: &str,
+    input: &[u8],
+    text: &str,
+) -> Result<(), Fail> {
+    for capacity in 0..text.len() {
+        if capacity < 250 || capacity % 67 == 0 {
+            expect_front(rt, line, input, text, capacity)?;
+        }
+    }
+    Ok(())
+}
+
+/// A sink of less room than the text holds the text's first bytes.
 fn expect_write_faults<R: Threads + Wait + Sync + Abort + AllocGlobal>(
     rt: &R,
     line: &str,
     input: &[u8],
 ) -> Result<(), Fail> {
-    let (status, whole, _) = answer(rt, line, input)?;
-    assert_eq!(rt; status, Status::Done, "at {line}");
-    let text = whole.bytes();
-    for capacity in 0..text.len() {
-        if capacity >= 250 && capacity % 67 != 0 {
-            continue;
-        }
-        let mut order = source(rt.alloc(), input)?;
-        let mut out = sink(rt.alloc(), capacity, &[])?;
-        let mut err = sink(rt.alloc(), 100, &[])?;
-        let status = run_line(rt, line, &mut order, &mut out, &mut err)?;
-        assert_eq!(rt; status, Status::WriteFault, "{line} at {capacity}");
-        assert_eq!(rt; out.bytes(), &text[..capacity], "{line} at {capacity}");
-        assert_eq!(rt;
-            err.bytes(),
-            b"write fault\n".as_slice(),
-            "{line} at {capacity}"
-        );
-    }
-    Ok(())
+    let whole = answer_to(rt, line, input)?;
+    expect_told(rt, line, &whole, (Status::Done, text_of(&whole.out), ""));
+    expect_fronts(rt, line, input, text_of(&whole.out))
 }
 
 #[test]
 fn each_failed_read_ends_each_command(rt: HostRuntime) -> Result<(), Fail> {
-    for line in READERS {
+    for line in &READERS {
         expect_read_faults(&rt, line)?;
     }
     Ok(())
@@ -77,26 +114,31 @@ fn each_failed_read_ends_each_command(rt: HostRuntime) -> Result<(), Fail> {
 
 #[test]
 fn a_full_sink_holds_the_first_bytes_of_each_text(rt: HostRuntime) -> Result<(), Fail> {
-    let (_, covering, _) = answer(&rt, "cover", ORDER_B.as_bytes())?;
-    expect_write_faults(&rt, "check", covering.bytes())?;
-    for line in ["table --workers 2", "cover", "ical", "plain", "order"] {
+    let covering = answer_to(&rt, "cover", ORDER_B.as_bytes())?;
+    expect_write_faults(&rt, "check", covering.out.bytes())?;
+    for line in &ORDER_READERS {
         expect_write_faults(&rt, line, ORDER_B.as_bytes())?;
     }
     Ok(())
 }
 
+/// Bytes that come one by one get the same answer as all at once.
+fn expect_same<R: Threads + Wait + Sync + Abort + AllocGlobal>(
+    rt: &R,
+    line: &str,
+) -> Result<(), Fail> {
+    let whole = answer_to(rt, line, ORDER_B.as_bytes())?;
+    let mut order = slow_source(rt.alloc(), ORDER_B.as_bytes(), &[])?;
+    let (out, err) = (sink(rt.alloc(), 60_000, &[])?, sink(rt.alloc(), 300, &[])?);
+    let slow = run_line(rt, line, &mut order, out, err)?;
+    expect_told(rt, line, &slow, whole.told());
+    Ok(())
+}
+
 #[test]
 fn bytes_that_come_one_by_one_are_the_same_order(rt: HostRuntime) -> Result<(), Fail> {
-    for line in READERS {
-        let (status, whole, refused) = answer(&rt, line, ORDER_B.as_bytes())?;
-        let bytes = ORDER_B.as_bytes().to_vec(rt.alloc())?;
-        let mut order = MemSource::new(bytes, Vec::new(rt.alloc()), 1);
-        let mut out = sink(rt.alloc(), 60_000, &[])?;
-        let mut err = sink(rt.alloc(), 300, &[])?;
-        let found = run_line(&rt, line, &mut order, &mut out, &mut err)?;
-        assert_eq!(rt; found, status, "at {line}");
-        assert_eq!(rt; out.bytes(), whole.bytes(), "at {line}");
-        assert_eq!(rt; err.bytes(), refused.bytes(), "at {line}");
+    for line in &READERS {
+        expect_same(&rt, line)?;
     }
     Ok(())
 }
@@ -105,63 +147,76 @@ fn bytes_that_come_one_by_one_are_the_same_order(rt: HostRuntime) -> Result<(), 
 fn a_part_of_an_order_is_refused(rt: HostRuntime) -> Result<(), Fail> {
     let part = ORDER_B.as_bytes();
     let part = &part[..part.len() - 1];
-    for line in ["table --workers 3", "cover", "ical", "plain", "order"] {
-        let refusal = "order refused 1 json 1 at 150\n";
+    let refusal = "order refused 1 json 1 at 150\n";
+    for line in &ORDER_READERS {
         expect(&rt, line, part, Status::OrderRefused, "", refusal)?;
     }
     let refusal = "cover refused line 1 order 1 json 1 at 150\n";
     expect(&rt, "check", part, Status::CoverRefused, "", refusal)
 }
 
-#[test]
-fn a_failed_write_leaves_the_days_before_it(rt: HostRuntime) -> Result<(), Fail> {
-    let days = ORDER_B.replace(rt.alloc(), r#""days":1"#, r#""days":3"#)?;
-    let first = "prayer timetable 1
-from 2000-01-01 days 3 method mwl asr standard zone 0 positions 4
-date         fajr  f.end  dhuhr    asr   magh  m.end   isha
-2000-01-01  04:45  05:59  12:03  15:29  18:07  19:17  19:18
-2000-01-02  04:45  05:59  12:04  15:29  18:08  19:17  19:18
-2000-01-0";
-    for line in ["table --workers 1", "table --workers 3", "plain"] {
-        let mut order = source(rt.alloc(), days.as_bytes())?;
-        let mut out = sink(rt.alloc(), 2000, &[first.len() as u32 + 1])?;
-        let mut err = sink(rt.alloc(), 200, &[])?;
-        let status = run_line(&rt, line, &mut order, &mut out, &mut err)?;
-        assert_eq!(rt; status, Status::WriteFault, "at {line}");
-        assert_eq!(rt; out.bytes(), first.as_bytes(), "at {line}");
-        assert_eq!(rt; err.bytes(), b"write fault\n".as_slice(), "at {line}");
-    }
+/// A write fails in the third of three days.
+fn expect_first_days<R: Threads + Wait + Sync + Abort + AllocGlobal>(
+    rt: &R,
+    line: &str,
+    order: &[u8],
+) -> Result<(), Fail> {
+    let mut order = source(rt.alloc(), order)?;
+    let out = sink(rt.alloc(), 2000, &[FIRST_DAYS.len() as u32 + 1])?;
+    let err = sink(rt.alloc(), 200, &[])?;
+    let answer = run_line(rt, line, &mut order, out, err)?;
+    let wanted = (Status::WriteFault, FIRST_DAYS, "write fault\n");
+    expect_told(rt, line, &answer, wanted);
     Ok(())
 }
 
 #[test]
+fn a_failed_write_leaves_the_days_before_it(rt: HostRuntime) -> Result<(), Fail> {
+    let days = ORDER_B.replace(rt.alloc(), r#""days":1"#, r#""days":3"#)?;
+    expect_first_days(&rt, "table --workers 1", days.as_bytes())?;
+    expect_first_days(&rt, "table --workers 3", days.as_bytes())?;
+    expect_first_days(&rt, "plain", days.as_bytes())
+}
+
+/// The answer of `table` over a sink that may have failed before.
+fn table_into<R: Threads + Wait + Sync + AllocGlobal>(
+    rt: &R,
+    out: MemSink,
+) -> Result<Answer, NoMemory> {
+    let mut order = source(rt.alloc(), ORDER_B.as_bytes())?;
+    let err = sink(rt.alloc(), 200, &[])?;
+    run_line(rt, "table", &mut order, out, err)
+}
+
+#[test]
 fn a_sink_that_failed_once_is_used_again(rt: HostRuntime) -> Result<(), Fail> {
-    let mut out = sink(rt.alloc(), 2000, &[1])?;
-    for (status, text) in [(Status::WriteFault, ""), (Status::Done, TABLE_B)] {
-        let mut order = source(rt.alloc(), ORDER_B.as_bytes())?;
-        let mut err = sink(rt.alloc(), 200, &[])?;
-        let found = run_line(&rt, "table", &mut order, &mut out, &mut err)?;
-        assert_eq!(rt; found, status);
-        assert_eq!(rt; out.bytes(), text.as_bytes());
-    }
+    let first = table_into(&rt, sink(rt.alloc(), 2000, &[1])?)?;
+    let wanted = (Status::WriteFault, "", "write fault\n");
+    expect_told(&rt, "first", &first, wanted);
+    let second = table_into(&rt, first.out)?;
+    expect_told(&rt, "second", &second, (Status::Done, TABLE_B, ""));
+    Ok(())
+}
+
+/// The first call of the error stream fails: the status is the same, and nothing is reported.
+fn expect_status<R: Threads + Wait + Sync + Abort + AllocGlobal>(
+    rt: &R,
+    line: &str,
+    input: &str,
+    status: Status,
+) -> Result<(), Fail> {
+    let mut source = source(rt.alloc(), input.as_bytes())?;
+    let (out, err) = (sink(rt.alloc(), 0, &[])?, sink(rt.alloc(), 200, &[1])?);
+    let answer = run_line(rt, line, &mut source, out, err)?;
+    expect_told(rt, line, &answer, (status, "", ""));
     Ok(())
 }
 
 #[test]
 fn a_report_that_fails_changes_no_status(rt: HostRuntime) -> Result<(), Fail> {
-    for (line, input, status) in [
-        ("table 4", ORDER_B, Status::Usage),
-        ("table", "{}", Status::OrderRefused),
-        ("cover", "[", Status::OrderRefused),
-        ("check", ORDER_B, Status::CoverRefused),
-        ("table", ORDER_B, Status::WriteFault),
-    ] {
-        let mut source = source(rt.alloc(), input.as_bytes())?;
-        let mut out = sink(rt.alloc(), 0, &[])?;
-        let mut err = sink(rt.alloc(), 200, &[1])?;
-        let found = run_line(&rt, line, &mut source, &mut out, &mut err)?;
-        assert_eq!(rt; found, status, "at {line}");
-        assert_eq!(rt; err.bytes(), b"".as_slice(), "at {line}");
-    }
-    Ok(())
+    expect_status(&rt, "table 4", ORDER_B, Status::Usage)?;
+    expect_status(&rt, "table", "{}", Status::OrderRefused)?;
+    expect_status(&rt, "cover", "[", Status::OrderRefused)?;
+    expect_status(&rt, "check", ORDER_B, Status::CoverRefused)?;
+    expect_status(&rt, "table", ORDER_B, Status::WriteFault)
 }

@@ -1,5 +1,5 @@
 // The command `set`: its text whatever the number of workers, and what it refuses.
-use crate::common::expect;
+use crate::common::{expect, expect_texts};
 use run_samples::ORDER_B;
 use std::test::Fail;
 use timetable::Status;
@@ -23,26 +23,20 @@ end days 1 districts 2 open 0
 
 #[test]
 fn districts_that_are_the_same_have_the_same_lines(rt: HostRuntime) -> Result<(), Fail> {
-    for line in ["set", "set --workers 1", "set --workers=16"] {
-        expect(
-            &rt,
-            line,
-            SET_B.as_bytes(),
-            Status::Done,
-            TABLE_OF_SET_B,
-            "",
-        )?;
-    }
-    Ok(())
+    let lines = ["set", "set --workers 1", "set --workers=16"];
+    expect_texts(&rt, &lines, SET_B.as_bytes(), TABLE_OF_SET_B)
 }
 
 const NO_FEATURE: &str =
     r#"{"from":"2000-01-01","days":1,"method":"mwl","asr":"standard","zone":0,"district":{"type":"FeatureCollection","features":[]}}"#;
 
+/// What is no collection of districts, or one of none.
+const NO_SETS: [&str; 2] = [ORDER_B, NO_FEATURE];
+
 #[test]
 fn other_districts_are_refused(rt: HostRuntime) -> Result<(), Fail> {
-    for order in [ORDER_B, NO_FEATURE] {
-        let refusal = "order refused 6 geometry\n";
+    let refusal = "order refused 6 geometry\n";
+    for order in &NO_SETS {
         expect(
             &rt,
             "set",

@@ -1,13 +1,9 @@
-// Tests of the crates that search a judge's trees: a module for each of them, under a name of its own.
+// Tests of the searches, by workers and of several days, over small judges: a module for each of them, under a name of its own.
 // Contract: none; the crate has tests alone.
 #![tactic(auto)]
 
 #[cfg(test)]
-mod checked_lines;
-#[cfg(test)]
-mod coverings;
-#[cfg(test)]
-mod judges;
+mod schedules;
 #[cfg(test)]
 mod searches;
 #[cfg(test)]

@@ -1,44 +1,20 @@
 // Both searches of the trees of sample judges.
-ghost use Rattle.steal_pool.specs.Harvests.{IsHarvest};
-ghost use Rattle.steal_pool.specs.Samples.{threshold};
-ghost use Rattle.search_tests.specs.Steps.{steps};
+ghost use Rattle.plain_search.specs.Harvests.{IsHarvest};
+ghost use Rattle.sample_judges.specs.Samples.{steps, threshold};
 
-use crate::judges::{Late, Steps, Threshold};
-use cell_split::{Cell, Entry, root_at};
+use cell_split::{Cell, Entry, Judge, root_at};
 use covering::entry_of;
+use plain_search::{Harvest, TopRanks, search_plain, top_ranks};
 use region::Point;
+use sample_judges::{Late, Steps, Threshold};
+use std::alloc::Global;
 use std::process::Abort;
-use std::sync::atomic::{AtomicU64, Ordering};
+use std::sync::Wait;
 use std::test::Fail;
-use steal_pool::{Gate, Harvest, OpenGate, TopRanks, search, search_plain, top_ranks};
+use std::thread::Threads;
+use steal_pool::{OpenGate, search, search_ranks};
 
-/// Counts the tasks, and has a bit for each worker that began one.
-#[derive(Drop)]
-struct Counter {
-    tasks: AtomicU64,
-    begun: AtomicU64,
-}
-
-impl Counter {
-    fn new() -> Counter {
-        Counter {
-            tasks: AtomicU64::new(0),
-            begun: AtomicU64::new(0),
-        }
-    }
-}
-
-impl Gate for Counter {
-    fn before(&self, worker: u32, turn: u64) {
-        self.tasks.fetch_add(1, Ordering::SeqCst);
-        if turn == 0 {
-            self.begun
-                .fetch_or(1u64.wrapping_shl(worker), Ordering::SeqCst);
-        }
-    }
-}
-
-fn corner() -> Point {
+pub(crate) fn corner() -> Point {
     Point::new(12_800_000, 0, 1)
 }
 
@@ -53,8 +29,8 @@ fn leaves_above(harvest: &Harvest, rank: u32) -> u64 {
     above
 }
 
-// The one open cell of a judge that refutes the ranks up to 99.
-fn finds_the_open_cell(rt: &impl Abort, judge: &Threshold, harvest: &Harvest)
+/// The one open cell of a judge that refutes the ranks up to 99.
+pub(crate) fn finds_the_open_cell(rt: &impl Abort, judge: &Threshold, harvest: &Harvest)
     requires { IsHarvest (threshold judge.now.root judge.now.point) harvest.now.refuted harvest.now.leaves }
 {
     let cell = Cell {
@@ -91,8 +67,8 @@ fn every_search_finds_the_one_open_cell(rt: HostRuntime) -> Result<(), Fail> {
     Ok(())
 }
 
-// The entries of a judge that refutes the ranks below 100 times the problem's number.
-fn has_entries_by_steps(rt: &impl Abort, judge: &Steps, harvest: &Harvest)
+/// The entries of a judge that refutes the ranks below 100 times the problem's number.
+pub(crate) fn has_entries_by_steps(rt: &impl Abort, judge: &Steps, harvest: &Harvest)
     requires { IsHarvest (steps judge.now.root judge.now.point) harvest.now.refuted harvest.now.leaves }
 {
     for k in 0..7u32 {
@@ -119,39 +95,6 @@ fn what_the_workers_find_is_put_together_problem_by_problem(rt: HostRuntime) -> 
 }
 
 #[test]
-fn each_worker_passes_the_gate_for_its_part(rt: HostRuntime) -> Result<(), Fail> {
-    let judge = Steps {
-        root: root_at(100_000, 0),
-        point: corner(),
-    };
-    for (workers, begun) in [(1, 0b1), (2, 0b11), (3, 0b111), (16, 0b1010_1010_0101_0100)] {
-        let gate = Counter::new();
-        search(&rt, rt.alloc(), &judge, workers, &gate)?;
-        assert_eq!(rt;
-            gate.begun.load(Ordering::SeqCst),
-            begun,
-            "of {workers} workers"
-        );
-    }
-    Ok(())
-}
-
-#[test]
-fn a_refuted_leaf_raises_the_rank_and_what_it_covers_is_left_out(
-    rt: HostRuntime,
-) -> Result<(), Fail> {
-    let judge = Late {
-        root: root_at(100_000, 0),
-        point: corner(),
-    };
-    let gate = Counter::new();
-    let harvest = search(&rt, rt.alloc(), &judge, 1, &gate)?;
-    assert_eq!(rt; harvest.refuted_rank(0), Some(720));
-    assert_eq!(rt; gate.tasks.load(Ordering::SeqCst), 2);
-    Ok(())
-}
-
-#[test]
 fn the_ranks_alone_tell_what_is_refuted_and_what_is_left_open(rt: HostRuntime) {
     let (root, point) = (root_at(100_000, 0), corner());
     let open = TopRanks {
@@ -168,4 +111,33 @@ fn the_ranks_alone_tell_what_is_refuted_and_what_is_left_open(rt: HostRuntime) {
     for k in 1..7u32 {
         assert_eq!(rt; top_ranks(&judge, k).refuted, Some(100 * k - 1));
     }
+}
+
+// The ranks of each problem as one thread finds them.
+fn has_ranks_of_one_thread<J: Judge>(rt: &impl Abort, judge: &J, found: &[TopRanks]) {
+    assert_eq!(rt; found.len(), judge.problems() as usize);
+    for k in 0..judge.problems() {
+        let alone = top_ranks(judge, k);
+        assert_eq!(rt; found.get(k as usize), Some(&alone), "of problem {k}");
+    }
+}
+
+fn workers_find_ranks<R: Threads + Wait + Sync + Abort, J: Judge + Sync>(
+    rt: &R,
+    alloc: Global,
+    judge: &J,
+) -> Result<(), Fail> {
+    for workers in [1, 2, 16] {
+        let found = search_ranks(rt, alloc, judge, workers, &OpenGate)?;
+        has_ranks_of_one_thread(rt, judge, &found);
+    }
+    Ok(())
+}
+
+#[test]
+fn any_number_of_workers_finds_the_ranks_of_one_thread(rt: HostRuntime) -> Result<(), Fail> {
+    let (root, point) = (root_at(100_000, 0), corner());
+    workers_find_ranks(&rt, rt.alloc(), &Threshold { root, point })?;
+    workers_find_ranks(&rt, rt.alloc(), &Late { root, point })?;
+    workers_find_ranks(&rt, rt.alloc(), &Steps { root, point })
 }

@@ -1,19 +1,20 @@
 // Several days of one place in one search.
 ghost use Rattle.std.specs.Prelude.{◌≡◌, ◌*◌, ◌<◌, ◌^◌, None, IfOk, length, neg_ℤ, pos, ◌≤ℤ◌};
 ghost use Rattle.region.specs.Faults.{first_fault};
-ghost use Rattle.steal_pool.specs.Harvests.{IsHarvest};
+ghost use Rattle.plain_search.specs.Harvests.{IsHarvest};
 
 use cell_judge::Sky;
 use cell_split::{Entry, Judge};
 use covering::entry_of;
 use days_sky::{Day, DaysSky};
 use method_table::{Asr, Method, problems};
+use plain_search::{Harvest, search_plain};
 use region::{District, RegionFault};
 use std::alloc::{AllocError, Global};
 use std::sync::Wait;
 use std::test::Fail;
 use std::thread::Threads;
-use steal_pool::{Harvest, OpenGate, search, search_plain};
+use steal_pool::{OpenGate, search};
 
 // One place, 0.1 degrees east on the equator, as a ring of four equal positions.
 fn place(alloc: Global) -> Result<District, RegionFault>

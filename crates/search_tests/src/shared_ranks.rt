@@ -16,27 +16,26 @@ impl Fact for AtMost {
 
 #[test]
 fn a_word_gives_the_greatest_rank_raised(rt: HostRuntime) -> Result<(), Fail> {
-    let (bound, mut seat) = Bound::new(rt.alloc(), 1, AtMost(720))?;
+    let (bound, mut seat) = Bound::new(rt.alloc(), 2, AtMost(720))?;
     assert_eq!(rt; bound.read(&mut seat, 0), None);
     bound.raise(&mut seat, 0, 5);
     assert_eq!(rt; bound.read(&mut seat, 0), Some(5));
     bound.raise(&mut seat, 0, 3);
     assert_eq!(rt; bound.read(&mut seat, 0), Some(5));
     bound.raise(&mut seat, 0, 720);
-    let mut other = bound.split(&mut seat);
-    assert_eq!(rt; bound.read(&mut other, 0), Some(720));
+    assert_eq!(rt; bound.read(&mut seat, 0), Some(720));
+    assert_eq!(rt; bound.read(&mut seat, 1), None);
     Ok(())
 }
 
 #[test]
 fn a_seat_reads_what_another_raised(rt: HostRuntime) -> Result<(), Fail> {
-    let (bound, mut seat) = Bound::new(rt.alloc(), 2, AtMost(5))?;
+    let (bound, mut seat) = Bound::new(rt.alloc(), 1, AtMost(5))?;
     let mut other = bound.split(&mut seat);
-    bound.raise(&mut seat, 1, 5);
-    assert_eq!(rt; bound.read(&mut other, 1), Some(5));
-    assert_eq!(rt; bound.read(&mut other, 0), None);
+    bound.raise(&mut seat, 0, 5);
+    assert_eq!(rt; bound.read(&mut other, 0), Some(5));
     bound.join(&mut seat, other);
-    assert_eq!(rt; bound.read(&mut seat, 1), Some(5));
+    assert_eq!(rt; bound.read(&mut seat, 0), Some(5));
     Ok(())
 }
 

@@ -1,8 +1,8 @@
 // Calendars, right ones and wrong ones, and events as they are written. The answers are those of the reference.
-use ical_text::{
-    Events, IcalFault, calendar_end, calendar_head, calendars_are_read_again, event_text,
-    lines_decide, read_ical, reading_is_exact, readings_agree, tables_are_read_again,
+use ical_text::laws::{
+    calendars_are_read_again, lines_decide, reading_is_exact, readings_agree, tables_are_read_again,
 };
+use ical_text::{Events, IcalFault, calendar_end, calendar_head, event_text, read_ical};
 use method_table::{Asr, Method, problems};
 use std::alloc::{AllocError, Global};
 use std::process::Abort;

@@ -1,4 +1,4 @@
-// Tests of the crates of words and texts, a module a crate; of orders also one of their lines.
+// Tests of the crates of words and texts, a module a crate.
 // Contract: none; the crate has tests alone.
 #![tactic(auto)]
 
@@ -8,13 +8,5 @@ mod calendars;
 mod dates;
 #[cfg(test)]
 mod json_texts;
-#[cfg(test)]
-mod order_faults;
-#[cfg(test)]
-mod order_lines;
-#[cfg(test)]
-mod orders;
-#[cfg(test)]
-mod sets;
 #[cfg(test)]
 mod streams;

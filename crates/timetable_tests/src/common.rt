@@ -1,21 +1,20 @@
-// Runs of the top call on one thread, over an input in memory and sinks that take one byte a call.
-use run_samples::{sink, source, words_of};
-use source_sink::{MemSink, Source};
-use std::alloc::Global;
+// What runs of the top call on one thread answer.
+use run_samples::{Answer, plain_answer_to, run_plain_line, sink, source};
 use std::process::Abort;
 use std::test::Fail;
-use timetable::{Status, run_plain};
+use timetable::Status;
 
-/// Runs the words of a line.
-pub(crate) fn run<S: Source>(
-    alloc: Global,
-    line: &str,
-    source: &mut S,
-    out: &mut MemSink,
-    err: &mut MemSink,
-) -> Result<Status, Fail> {
-    let words = words_of(alloc, line)?;
-    Ok(run_plain(alloc, &words, source, out, err))
+/// The line of a fault in a write.
+pub(crate) const FAULT: &str = "write fault\n";
+
+/// A run, by its words or another name, answered this.
+pub(crate) fn expect_told(
+    rt: &impl Abort,
+    run: &str,
+    answer: &Answer,
+    wanted: (Status, &str, &str),
+) {
+    assert_eq!(rt; (run, answer.told()), (run, wanted));
 }
 
 /// The status of the words over the input, and all that they write.
@@ -27,12 +26,26 @@ pub(crate) fn expect(
     out: &str,
     err: &str,
 ) -> Result<(), Fail> {
+    let answer = plain_answer_to(rt.alloc(), line, input)?;
+    expect_told(rt, line, &answer, (status, out, err));
+    Ok(())
+}
+
+/// A sink with room for so many bytes holds as many of the text, and a write failed.
+pub(crate) fn expect_front(
+    rt: &(impl Abort + AllocGlobal),
+    line: &str,
+    input: &[u8],
+    text: &str,
+    capacity: usize,
+) -> Result<(), Fail> {
     let mut source = source(rt.alloc(), input)?;
-    let mut written = sink(rt.alloc(), 2000, &[])?;
-    let mut reported = sink(rt.alloc(), 300, &[])?;
-    let found = run(rt.alloc(), line, &mut source, &mut written, &mut reported)?;
-    assert_eq!(rt; found, status, "at {line}, wanted {out}{err}");
-    assert_eq!(rt; written.bytes(), out.as_bytes(), "at {line}, wanted {out}");
-    assert_eq!(rt; reported.bytes(), err.as_bytes(), "at {line}, wanted {err}");
+    let (out, err) = (
+        sink(rt.alloc(), capacity, &[])?,
+        sink(rt.alloc(), 200, &[])?,
+    );
+    let answer = run_plain_line(rt.alloc(), line, &mut source, out, err)?;
+    let front = text.get(..capacity).unwrap_or(text);
+    expect_told(rt, line, &answer, (Status::WriteFault, front, FAULT));
     Ok(())
 }

@@ -45,9 +45,9 @@ const LINES: [(&str, Status, &str, &str); 5] = [
 
 #[test]
 fn suns_and_rules_stand_in_the_line(rt: HostRuntime) -> Result<(), Fail> {
-    for (more, status, line, refusal) in LINES {
+    for (more, status, line, refusal) in &LINES {
         let order = with_member(rt.alloc(), ORDER_A, more)?;
-        expect(&rt, "order", order.as_bytes(), status, line, refusal)?;
+        expect(&rt, "order", order.as_bytes(), *status, line, refusal)?;
     }
     Ok(())
 }
@@ -79,17 +79,20 @@ night fajr  02:04 isha  23:56
 end days 1 open 0
 ";
 
+/// An order, what it is asked for beside its other members, and its table.
+const TABLES: [(&str, &str, &str); 3] = [
+    (ORDER_A, r#""sun":"meeus""#, TABLE_OF_MEEUS),
+    (ORDER_B, r#""night":"seventh""#, TABLE_OF_A_NIGHT),
+    (
+        NORTH,
+        r#""sun":"meeus","night":"angle""#,
+        TABLE_OF_A_LIGHT_NIGHT,
+    ),
+];
+
 #[test]
 fn suns_and_rules_have_their_tables(rt: HostRuntime) -> Result<(), Fail> {
-    for (order, more, table) in [
-        (ORDER_A, r#""sun":"meeus""#, TABLE_OF_MEEUS),
-        (ORDER_B, r#""night":"seventh""#, TABLE_OF_A_NIGHT),
-        (
-            NORTH,
-            r#""sun":"meeus","night":"angle""#,
-            TABLE_OF_A_LIGHT_NIGHT,
-        ),
-    ] {
+    for (order, more, table) in &TABLES {
         let order = with_member(rt.alloc(), order, more)?;
         expect(&rt, "plain", order.as_bytes(), Status::Done, table, "")?;
     }

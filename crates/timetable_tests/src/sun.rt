@@ -1,13 +1,10 @@
 // The command `sun`: its words, its line and its sinks.
-use crate::common::{expect, run};
-use run_samples::{sink, source};
+use crate::common::{FAULT, expect, expect_front, expect_told};
+use run_samples::{USAGE, run_plain_line, sink, source};
 use std::test::Fail;
 use timetable::Status;
 
 const LINE: &str = "minute 0 lon 0.000000 lat 0.000000 angle 0.000000 above\n";
-
-const USAGE: &str =
-    "usage: timetable table [--workers W] | cover [--workers W] [--form F] | demo [--number M] [--workers W] | plain | check | order | sun MINUTE LON LAT WHAT [meeus] | set [--workers W] | ical [--workers W] | agenda\n";
 
 const WRONG_WORDS: [&str; 36] = [
     "",
@@ -50,14 +47,14 @@ const WRONG_WORDS: [&str; 36] = [
 
 #[test]
 fn wrong_words_get_the_usage_line(rt: HostRuntime) -> Result<(), Fail> {
-    for words in WRONG_WORDS {
+    for words in &WRONG_WORDS {
         expect(&rt, words, b"", Status::Usage, "", USAGE)?;
     }
     Ok(())
 }
 
 /// Words, and the line that they get.
-const RIGHT_WORDS: [(&str, &str); 12] = [
+const RIGHT_WORDS: [(&str, &str); 14] = [
     ("sun 0 0 0 0", LINE),
     (
         "sun 720 0 0 18",
@@ -103,11 +100,19 @@ const RIGHT_WORDS: [(&str, &str); 12] = [
         "sun 270 0.1 0 asr2",
         "minute 270 lon 0.100000 lat 0.000000 asr 2 after\n",
     ),
+    (
+        "sun 0 0 0 0 meeus",
+        "minute 0 lon 0.000000 lat 0.000000 angle 0.000000 meeus above\n",
+    ),
+    (
+        "sun 0 0 0 meridian meeus",
+        "minute 0 lon 0.000000 lat 0.000000 meridian meeus before\n",
+    ),
 ];
 
 #[test]
 fn right_words_get_a_line(rt: HostRuntime) -> Result<(), Fail> {
-    for (words, line) in RIGHT_WORDS {
+    for (words, line) in &RIGHT_WORDS {
         expect(&rt, words, b"", Status::Done, line, "")?;
     }
     Ok(())
@@ -115,39 +120,28 @@ fn right_words_get_a_line(rt: HostRuntime) -> Result<(), Fail> {
 
 #[test]
 fn a_failed_write_is_no_later_fault(rt: HostRuntime) -> Result<(), Fail> {
-    let mut out = sink(rt.alloc(), 200, &[1])?;
-    let mut err = sink(rt.alloc(), 200, &[])?;
     let mut source = source(rt.alloc(), b"")?;
-    let first = run(rt.alloc(), "sun 0 0 0 0", &mut source, &mut out, &mut err)?;
-    assert_eq!(rt; first, Status::WriteFault);
-    assert_eq!(rt; err.bytes(), b"write fault\n".as_slice());
-    let second = run(rt.alloc(), "sun 0 0 0 0", &mut source, &mut out, &mut err)?;
-    assert_eq!(rt; second, Status::Done);
-    assert_eq!(rt; out.bytes(), LINE.as_bytes());
+    let (out, err) = (sink(rt.alloc(), 200, &[1])?, sink(rt.alloc(), 200, &[])?);
+    let first = run_plain_line(rt.alloc(), "sun 0 0 0 0", &mut source, out, err)?;
+    expect_told(&rt, "first", &first, (Status::WriteFault, "", FAULT));
+    let second = run_plain_line(rt.alloc(), "sun 0 0 0 0", &mut source, first.out, first.err)?;
+    expect_told(&rt, "second", &second, (Status::Done, LINE, FAULT));
     Ok(())
 }
 
 #[test]
 fn a_failing_error_stream_is_passed_over(rt: HostRuntime) -> Result<(), Fail> {
-    let mut out = sink(rt.alloc(), 0, &[])?;
-    let mut err = sink(rt.alloc(), 200, &[1])?;
     let mut source = source(rt.alloc(), b"")?;
-    let status = run(rt.alloc(), "sun", &mut source, &mut out, &mut err)?;
-    assert_eq!(rt; status, Status::Usage);
-    assert_eq!(rt; err.bytes(), b"".as_slice());
+    let (out, err) = (sink(rt.alloc(), 0, &[])?, sink(rt.alloc(), 200, &[1])?);
+    let answer = run_plain_line(rt.alloc(), "sun", &mut source, out, err)?;
+    expect_told(&rt, "sun", &answer, (Status::Usage, "", ""));
     Ok(())
 }
 
 #[test]
 fn a_full_sink_holds_the_first_bytes(rt: HostRuntime) -> Result<(), Fail> {
-    let line = LINE.as_bytes();
-    for capacity in 0..line.len() {
-        let mut out = sink(rt.alloc(), capacity, &[])?;
-        let mut err = sink(rt.alloc(), 200, &[])?;
-        let mut source = source(rt.alloc(), b"")?;
-        let status = run(rt.alloc(), "sun 0 0 0 0", &mut source, &mut out, &mut err)?;
-        assert_eq!(rt; status, Status::WriteFault);
-        assert_eq!(rt; out.bytes(), &line[..capacity]);
+    for capacity in 0..LINE.len() {
+        expect_front(&rt, "sun 0 0 0 0", b"", LINE, capacity)?;
     }
     Ok(())
 }

@@ -1,7 +1,9 @@
 // The command `plain`: the table of an order, its entries, its sources and sinks.
-use crate::common::{expect, run};
-use run_samples::{ORDER_B, TABLE_B, order_over, sink, source};
-use source_sink::MemSource;
+use crate::common::{FAULT, expect, expect_front, expect_told};
+use run_samples::{
+    Answer, FIRST_DAYS, ORDER_B, TABLE_B, order_over, plain_answer_to, run_plain_line, sink,
+    slow_source, source,
+};
 use std::alloc::{AllocError, Global};
 use std::process::Abort;
 use std::test::Fail;
@@ -35,24 +37,43 @@ fn order_at(
     order_over(alloc, members.as_str(), district.as_str())
 }
 
-/// The status of the table and all that stands in it behind its head.
+/// The last line of a table's head.
+const HEAD: &str = "date         fajr  f.end  dhuhr    asr   magh  m.end   isha\n";
+
+/// What a run of `plain` answered, without the table's head.
+fn told_rows(answer: &Answer) -> (Status, &str, &str) {
+    let (status, table, err) = answer.told();
+    match table.split_once(HEAD) {
+        Some((_, rows)) => (status, rows, err),
+        None => (status, table, err),
+    }
+}
+
+fn expect_told_rows(rt: &impl Abort, answer: &Answer, wanted: (Status, &str, &str)) {
+    assert_eq!(rt; told_rows(answer), wanted);
+}
+
+/// The status of the order's table and all that stands in it behind its head.
 fn expect_rows(
     rt: &(impl Abort + AllocGlobal),
     order: &str,
     status: Status,
     rows: &str,
 ) -> Result<(), Fail> {
-    let mut source = source(rt.alloc(), order.as_bytes())?;
-    let mut out = sink(rt.alloc(), 2000, &[])?;
-    let mut err = sink(rt.alloc(), 200, &[])?;
-    let found = run(rt.alloc(), "plain", &mut source, &mut out, &mut err)?;
-    let end = format!(in rt.alloc();
-        "date         fajr  f.end  dhuhr    asr   magh  m.end   isha\n{rows}\n"
-    )?;
-    assert_eq!(rt; found, status, "at {rows}");
-    assert!(rt; out.bytes().ends_with(end.as_bytes()), "at {rows}");
-    assert_eq!(rt; err.bytes(), b"".as_slice(), "at {rows}");
+    let answer = plain_answer_to(rt.alloc(), "plain", order.as_bytes())?;
+    expect_told_rows(rt, &answer, (status, rows, ""));
     Ok(())
+}
+
+/// The entries of the order's one day.
+fn expect_entries(
+    rt: &(impl Abort + AllocGlobal),
+    order: &str,
+    day: &str,
+    entries: &str,
+) -> Result<(), Fail> {
+    let rows = format!(in rt.alloc(); "{day}{entries}\nend days 1 open 0\n")?;
+    expect_rows(rt, order, Status::Done, rows.as_str())
 }
 
 #[test]
@@ -127,10 +148,9 @@ const ENTRIES: [(&str, &str, &str, &str, &str); 6] = [
 
 #[test]
 fn entries_have_marks_and_stand_for_whole_and_never(rt: HostRuntime) -> Result<(), Fail> {
-    for (from, method, zone, place, entries) in ENTRIES {
+    for (from, method, zone, place, entries) in &ENTRIES {
         let order = order_at(rt.alloc(), from, method, zone, place)?;
-        let rows = format!(in rt.alloc(); "{from}{entries}\nend days 1 open 0")?;
-        expect_rows(&rt, order.as_str(), Status::Done, rows.as_str())?;
+        expect_entries(&rt, order.as_str(), from, entries)?;
     }
     Ok(())
 }
@@ -140,69 +160,68 @@ fn an_undecided_entry_is_printed_with_its_cell(rt: HostRuntime) -> Result<(), Fa
     let order = order_at(rt.alloc(), "2000-01-01", "mwl", "0", "0.325958,0")?;
     let rows = "2000-01-01  04:44  05:58  ??:??  15:28  18:06  19:16  19:17
 open dhuhr safe  12:03 from  12:02 cell 41722624 0 rank 363
-end days 1 open 1";
+end days 1 open 1
+";
     expect_rows(&rt, order.as_str(), Status::Open, rows)
 }
 
+/// The last day of winter time and the first of summer time, and their entries.
+const DAYS_OF_A_RULE: [(&str, &str); 2] = [
+    (
+        "2025-03-29",
+        "  04:11  06:02  12:25  15:55  18:48  20:33  20:34",
+    ),
+    (
+        "2025-03-30",
+        "  05:08  07:00  13:25  16:56  19:49  21:35  21:36",
+    ),
+];
+
 #[test]
 fn a_rule_gives_the_offset_at_noon(rt: HostRuntime) -> Result<(), Fail> {
-    for (from, entries) in [
-        (
-            "2025-03-29",
-            "  04:11  06:02  12:25  15:55  18:48  20:33  20:34",
-        ),
-        (
-            "2025-03-30",
-            "  05:08  07:00  13:25  16:56  19:49  21:35  21:36",
-        ),
-    ] {
+    for (from, entries) in &DAYS_OF_A_RULE {
         let zone = r#""CET-1CEST,M3.5.0,M10.5.0/3""#;
         let order = order_at(rt.alloc(), from, "mwl", zone, "10,50")?;
-        let rows = format!(in rt.alloc(); "{from}{entries}\nend days 1 open 0")?;
-        expect_rows(&rt, order.as_str(), Status::Done, rows.as_str())?;
+        expect_entries(&rt, order.as_str(), from, entries)?;
     }
     Ok(())
 }
 
 #[test]
 fn bytes_come_and_go_one_by_one(rt: HostRuntime) -> Result<(), Fail> {
-    let bytes = ORDER_B.as_bytes().to_vec(rt.alloc())?;
-    let mut order = MemSource::new(bytes, Vec::new(rt.alloc()), 1);
-    let mut out = sink(rt.alloc(), 2000, &[])?;
-    let mut err = sink(rt.alloc(), 200, &[])?;
-    let status = run(rt.alloc(), "plain", &mut order, &mut out, &mut err)?;
-    assert_eq!(rt; status, Status::Done);
-    assert_eq!(rt; out.bytes(), TABLE_B.as_bytes());
-    assert_eq!(rt; err.bytes(), b"".as_slice());
+    let mut order = slow_source(rt.alloc(), ORDER_B.as_bytes(), &[])?;
+    let (out, err) = (sink(rt.alloc(), 2000, &[])?, sink(rt.alloc(), 200, &[])?);
+    let answer = run_plain_line(rt.alloc(), "plain", &mut order, out, err)?;
+    expect_told(&rt, "plain", &answer, (Status::Done, TABLE_B, ""));
+    Ok(())
+}
+
+fn expect_told_at(rt: &impl Abort, number: u32, answer: &Answer, wanted: (Status, &str, &str)) {
+    assert_eq!(rt; (number, answer.told()), (number, wanted));
+}
+
+/// The source's call of this number fails.
+fn expect_read_fault(rt: &(impl Abort + AllocGlobal), number: u32) -> Result<(), Fail> {
+    let mut order = slow_source(rt.alloc(), ORDER_B.as_bytes(), &[number])?;
+    let (out, err) = (sink(rt.alloc(), 2000, &[])?, sink(rt.alloc(), 200, &[])?);
+    let answer = run_plain_line(rt.alloc(), "plain", &mut order, out, err)?;
+    let wanted = (Status::ReadFault, "", "read fault\n");
+    expect_told_at(rt, number, &answer, wanted);
     Ok(())
 }
 
 #[test]
 fn each_failed_read_ends_the_run_with_nothing_written(rt: HostRuntime) -> Result<(), Fail> {
-    for i in 1..ORDER_B.len() as u32 + 2 {
-        let bytes = ORDER_B.as_bytes().to_vec(rt.alloc())?;
-        let mut order = MemSource::new(bytes, vec![in rt.alloc(); i]?, 1);
-        let mut out = sink(rt.alloc(), 2000, &[])?;
-        let mut err = sink(rt.alloc(), 200, &[])?;
-        let status = run(rt.alloc(), "plain", &mut order, &mut out, &mut err)?;
-        assert_eq!(rt; status, Status::ReadFault, "at call {i}");
-        assert_eq!(rt; out.bytes(), b"".as_slice(), "at call {i}");
-        assert_eq!(rt; err.bytes(), b"read fault\n".as_slice(), "at call {i}");
+    for number in 1..ORDER_B.len() as u32 + 2 {
+        expect_read_fault(&rt, number)?;
     }
     Ok(())
 }
 
 #[test]
 fn a_full_sink_holds_the_first_bytes_of_the_table(rt: HostRuntime) -> Result<(), Fail> {
-    let table = TABLE_B.as_bytes();
-    for capacity in 0..table.len() {
-        let mut order = source(rt.alloc(), ORDER_B.as_bytes())?;
-        let mut out = sink(rt.alloc(), capacity, &[])?;
-        let mut err = sink(rt.alloc(), 200, &[])?;
-        let status = run(rt.alloc(), "plain", &mut order, &mut out, &mut err)?;
-        assert_eq!(rt; status, Status::WriteFault, "at {capacity}");
-        assert_eq!(rt; out.bytes(), &table[..capacity], "at {capacity}");
-        assert_eq!(rt; err.bytes(), b"write fault\n".as_slice(), "at {capacity}");
+    for capacity in 0..TABLE_B.len() {
+        expect_front(&rt, "plain", ORDER_B.as_bytes(), TABLE_B, capacity)?;
     }
     Ok(())
 }
@@ -210,18 +229,11 @@ fn a_full_sink_holds_the_first_bytes_of_the_table(rt: HostRuntime) -> Result<(),
 #[test]
 fn a_failed_write_leaves_the_days_before_it(rt: HostRuntime) -> Result<(), Fail> {
     let days = ORDER_B.replace(rt.alloc(), r#""days":1"#, r#""days":3"#)?;
-    let first = "prayer timetable 1
-from 2000-01-01 days 3 method mwl asr standard zone 0 positions 4
-date         fajr  f.end  dhuhr    asr   magh  m.end   isha
-2000-01-01  04:45  05:59  12:03  15:29  18:07  19:17  19:18
-2000-01-02  04:45  05:59  12:04  15:29  18:08  19:17  19:18
-2000-01-0";
     let mut order = source(rt.alloc(), days.as_bytes())?;
-    let mut out = sink(rt.alloc(), 2000, &[first.len() as u32 + 1])?;
-    let mut err = sink(rt.alloc(), 200, &[])?;
-    let status = run(rt.alloc(), "plain", &mut order, &mut out, &mut err)?;
-    assert_eq!(rt; status, Status::WriteFault);
-    assert_eq!(rt; out.bytes(), first.as_bytes());
-    assert_eq!(rt; err.bytes(), b"write fault\n".as_slice());
+    let out = sink(rt.alloc(), 2000, &[FIRST_DAYS.len() as u32 + 1])?;
+    let err = sink(rt.alloc(), 200, &[])?;
+    let answer = run_plain_line(rt.alloc(), "plain", &mut order, out, err)?;
+    let wanted = (Status::WriteFault, FIRST_DAYS, FAULT);
+    expect_told(&rt, "plain", &answer, wanted);
     Ok(())
 }

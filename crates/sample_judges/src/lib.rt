@@ -1,4 +1,7 @@
-// Judges by which the searches are tried.
+// Judges of few words by which searches and coverings are tried.
+// Contract: their verdicts, by cases of ranks and places; only tests use them.
+#![tactic(auto)]
+
 ghost use Rattle.std.proofs.Common.{rules};
 ghost use Rattle.std.specs.Prelude.{pos};
 ghost use Rattle.cell_split.specs.Cells.{IsRoot, root_at};
@@ -16,8 +19,8 @@ pub struct Threshold {
 }
 
 impl Judge for Threshold {
-    ghost use Rattle.steal_pool.specs.Samples.{threshold};
-    ghost use Rattle.steal_pool.specs.SampleLaws.{threshold_lawful};
+    ghost use Rattle.sample_judges.specs.Samples.{threshold};
+    ghost use Rattle.sample_judges.specs.SampleLaws.{threshold_lawful};
 
     ghost content = { λ j. threshold j.root j.point };
 
@@ -56,8 +59,8 @@ pub struct Late {
 }
 
 impl Judge for Late {
-    ghost use Rattle.steal_pool.specs.Samples.{late};
-    ghost use Rattle.steal_pool.specs.SampleLaws.{late_lawful};
+    ghost use Rattle.sample_judges.specs.Samples.{late};
+    ghost use Rattle.sample_judges.specs.SampleLaws.{late_lawful};
 
     ghost content = { λ j. late j.root j.point };
 
@@ -92,8 +95,8 @@ pub struct Steps {
 }
 
 impl Judge for Steps {
-    ghost use Rattle.search_tests.specs.Steps.{steps};
-    ghost use Rattle.search_tests.specs.StepLaws.{steps_lawful};
+    ghost use Rattle.sample_judges.specs.Samples.{steps};
+    ghost use Rattle.sample_judges.specs.SampleLaws.{steps_lawful};
 
     ghost content = { λ j. steps j.root j.point };
 

@@ -1,8 +1,7 @@
 // Sets of districts, right ones and wrong ones, with the first refusal of each.
 use crate::order_faults::fault_text;
-use set_reader::{
-    SetOrder, every_text_is_a_set_or_refused, read_set, set_readings_agree, sets_keep_the_rule,
-};
+use set_reader::laws::{every_text_is_a_set_or_refused, set_readings_agree, sets_keep_the_rule};
+use set_reader::{SetOrder, read_set};
 use std::alloc::{AllocError, Global};
 use std::process::Abort;
 use std::test::Fail;

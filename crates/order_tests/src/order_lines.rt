@@ -1,5 +1,6 @@
 // Orders with their canonical lines.
-use order_reader::{order_line, read_order, read_order_line};
+use order_reader::read_order;
+use order_text::{order_line, read_order_line};
 use std::alloc::{AllocError, Global};
 use std::test::Fail;
 

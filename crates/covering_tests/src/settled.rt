@@ -1,12 +1,12 @@
 // What is settled of the trees of a few judges.
-use crate::judges::{Late, Nobody, Threshold};
 use cell_split::{Cell, Entry, Judge, root_at};
 use covering::{Settled, cover_line, cover_line_1, entry_of, settle};
+use plain_search::search_plain;
 use region::Point;
+use sample_judges::{Late, Nobody, Threshold};
 use std::alloc::Global;
 use std::process::Abort;
 use std::test::Fail;
-use steal_pool::search_plain;
 
 // Settles a judge's first problem, whose entry is the same without the letters.
 pub(crate) fn settled<J: Judge>(

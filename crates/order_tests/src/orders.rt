@@ -1,9 +1,11 @@
 // Orders, right ones and wrong ones, with the first refusal of each.
 use crate::order_faults::fault_text;
-use order_reader::{
-    every_text_is_read_or_refused, line_readings_agree, order_readings_agree, orders_keep_the_rule,
-    read_order, read_order_line,
+use order_reader::laws::{
+    every_text_is_read_or_refused, order_readings_agree, orders_keep_the_rule,
 };
+use order_reader::read_order;
+use order_text::laws::{line_readings_agree, lines_keep_the_rule};
+use order_text::read_order_line;
 use std::alloc::{AllocError, Global};
 use std::process::Abort;
 use std::test::Fail;
@@ -308,4 +310,5 @@ fn the_laws_are_called(_rt: HostRuntime) {
     line_readings_agree();
     every_text_is_read_or_refused();
     orders_keep_the_rule();
+    lines_keep_the_rule();
 }

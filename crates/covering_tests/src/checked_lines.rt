@@ -1,10 +1,10 @@
 // What lines show, and why they show nothing.
-use crate::coverings::settled;
-use crate::judges::{Late, Sure, Threshold};
+use crate::settled::settled;
 use cell_split::{Entry, Judge, root_at};
 use covering::{cover_line, cover_line_1};
 use covering_check::{CoverFault, check_line};
 use region::Point;
+use sample_judges::{Late, Sure, Threshold};
 use std::alloc::Global;
 use std::process::Abort;
 use std::test::Fail;
