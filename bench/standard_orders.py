@@ -1,6 +1,6 @@
-"""Prints one of the standard orders on which speed is measured: standard_orders.py [NAME]
+"""Prints one of the standard orders on which speed is measured: standard_orders.py [NAME [DAYS]]
 
-With no name it prints the names. The same name always gives the same order.
+With no name it prints the names. The same name always gives the same order, over its own days or over DAYS.
 """
 import json
 import math
@@ -37,7 +37,8 @@ def jagged(count, east, north, depth):
 
 
 def square(west, south, side):
-    return [[west, south], [west + side, south], [west + side, south + side], [west, south + side], [west, south]]
+    east, north = round(west + side, 6), south + side
+    return [[west, south], [east, south], [east, north], [west, north], [west, south]]
 
 
 def comb(teeth):
@@ -62,6 +63,8 @@ ORDERS = {
     'north': ('2025-06-01', 30, 'mwl', 60, lambda: square(8, 60, 4)),
     'sliver': ('2025-01-01', 30, 'mwl', 180, lambda: [[44, 22], [48, 26], [48.000001, 26], [44.000001, 22], [44, 22]]),
     'comb': ('2025-01-01', 30, 'mwl', 180, lambda: comb(1022)),
+    # its western border lies along the meridian where noon is a whole minute
+    'meridian': ('2025-03-05', 1, 'mwl', 180, lambda: square(44.110357, 22, 4)),
 }
 
 
@@ -74,8 +77,10 @@ def order(name):
 def main():
     if len(sys.argv) == 1:
         print('\n'.join(ORDERS))
-    elif len(sys.argv) == 2 and sys.argv[1] in ORDERS:
-        print(json.dumps(order(sys.argv[1]), separators=(',', ':')))
+    elif len(sys.argv) in (2, 3) and sys.argv[1] in ORDERS:
+        asked = order(sys.argv[1])
+        asked['days'] = int(sys.argv[2]) if len(sys.argv) == 3 else asked['days']
+        print(json.dumps(asked, separators=(',', ':')))
     else:
         sys.exit(__doc__)
 

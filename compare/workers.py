@@ -3,7 +3,7 @@
     python3 compare/workers.py COUNT [PROGRAM [REFERENCE [SEED]]]
 
 PROGRAM and REFERENCE are commands, each one argument; else they are ./timetable and reference/timetable.py. They are run
-with the word `table`, the program with 1, 2, 3 and 16 workers and with the word `plain` beside it, on COUNT right orders of few
+with the word `table`, the program with 1, 2, 3, 4 and 16 workers and with the word `plain` beside it, on COUNT right orders of few
 days and small districts; and with `demo`, 1 and 4 workers, on an eighth as many numbers. Compared are the output, the error
 stream and the status. It prints what differs, and exits with 1 if anything did.
 """
@@ -12,7 +12,7 @@ import sys
 from answers import answer, words_given
 from orders import right_order, text_of
 
-WORKERS = ['1', '2', '3', '16']
+WORKERS = ['1', '2', '3', '4', '16']
 
 
 def main():

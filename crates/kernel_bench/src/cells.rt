@@ -1,7 +1,7 @@
 // The cells that are judged for the table of an order.
 ghost use Rattle.std.specs.Prelude.{◌<◌, ◌≤ℤ◌, pos, neg_ℤ};
 ghost use Rattle.cell_judge.specs.Limits.{AreInLimits};
-ghost use Rattle.order_reader.specs.Offsets.{IsOffset, first_day, last_day};
+ghost use Rattle.order_rule.specs.Offsets.{IsOffset, first_day, last_day};
 
 use crate::counting::Counting;
 use crate::tree_order::walk_problem;
@@ -10,7 +10,8 @@ use cell_judge::Sky;
 use cell_split::Judge;
 use covering::entry_at;
 use method_table::{Problem, noon_of, problems};
-use order_reader::{Order, read_order};
+use order_reader::read_order;
+use order_rule::Order;
 use region::District;
 use source_sink::{StdSource, read_all};
 use std::alloc::{AllocError, Global};
@@ -20,9 +21,9 @@ const LIMIT: usize = 16_777_216;
 
 /// The problems of a day, which a sky can judge.
 #[derive(Clone, Copy)]
-struct Day {
-    problems: [Problem; 7],
-    ghost limits: { AreInLimits problems },
+pub struct Day {
+    pub problems: [Problem; 7],
+    pub ghost limits: { AreInLimits problems },
 }
 
 /// How many cells are judged for the table of the order that the input holds.
@@ -50,7 +51,7 @@ fn counted<R: Read + Drop>(alloc: Global, input: R, in_tree_order: bool) -> Resu
     Ok(judged)
 }
 
-fn order_in<R: Read + Drop>(alloc: Global, input: R) -> Result<Order> {
+pub fn order_in<R: Read + Drop>(alloc: Global, input: R) -> Result<Order> {
     let mut source = StdSource::new(input);
     let bytes = read_all(alloc, &mut source, LIMIT)
         .ok()
@@ -58,7 +59,7 @@ fn order_in<R: Read + Drop>(alloc: Global, input: R) -> Result<Order> {
     read_order(alloc, bytes.as_slice()).ok().context("no order")
 }
 
-fn days_of(alloc: Global, order: &Order) -> Result<Vec<Day>, AllocError> {
+pub fn days_of(alloc: Global, order: &Order) -> Result<Vec<Day>, AllocError> {
     let mut days = Vec::new(alloc);
     for i in 0..order.days {
         days.push(day_at(order, i))?;

@@ -7,6 +7,7 @@ mod boxes;
 mod cells;
 mod counting;
 mod json;
+mod pools;
 mod series;
 mod sums;
 mod tree_order;
@@ -16,7 +17,7 @@ use std::alloc::Global;
 use std::env;
 
 const USAGE: &str =
-    "usage: kernel_bench series|contains|meets|meets_by_strip COUNT | json | cells[_in_tree_order]";
+    "usage: kernel_bench series|contains|meets|meets_by_strip COUNT | json | cells[_in_tree_order] | pools DAYS WORKERS";
 
 fn main(rt: HostRuntime) -> Result<()> {
     let mut words = env::args(&rt)?.skip(1);
@@ -25,17 +26,22 @@ fn main(rt: HostRuntime) -> Result<()> {
         "json" => json::items(rt.alloc(), rt.stdin())?,
         "cells" => cells::judged(rt.alloc(), rt.stdin())?,
         "cells_in_tree_order" => cells::judged_in_tree_order(rt.alloc(), rt.stdin())?,
+        "pools" => {
+            let days = count(words.next().context(USAGE)?.as_str())?.clamp(1, 366);
+            let workers = count(words.next().context(USAGE)?.as_str())?.clamp(1, 16);
+            pools::searched(&rt, rt.alloc(), rt.stdin(), days as usize, workers as u32)?
+        }
         kernel => {
-            let count = words.next().context(USAGE)?;
-            let count = count
-                .as_str()
-                .parse::<u64>()
-                .context("a count is a whole number")?;
-            counted(rt.alloc(), kernel, count)?
+            let times = count(words.next().context(USAGE)?.as_str())?;
+            counted(rt.alloc(), kernel, times)?
         }
     };
     println!(rt; "{sum}")?;
     Ok(())
+}
+
+fn count(word: &str) -> Result<u64> {
+    word.parse::<u64>().context("a count is a whole number")
 }
 
 // The sum of a kernel that runs so many times.

@@ -1,5 +1,5 @@
 use Rattle.std.proofs.Common.{rules}
-use Rattle.steal_pool.proofs.TreeFacts.{child_at}
+use Rattle.plain_search.proofs.TreeFacts.{child_at}
 use Rattle.kernel_bench.proofs.tree_order.+walks.Goals as goal
 
 pub walk_below-walk-requires : goal.walk_below-walk-requires
