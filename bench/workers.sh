@@ -2,7 +2,8 @@
 # bench/workers.sh [PROGRAM]: `table` by 1, 2 and 4 workers beside `plain`, in one run by turns. Orders: the year of
 # examples/najran.json, the year of a city of 300 positions, and one day of a border along the meridian of a whole-minute noon.
 # For each: elapsed seconds (the least of forty runs, of nine where one takes over 0.3 s), how many times as fast as `plain`
-# that is, and the peak memory. All must write the same table. It says how many processors there are.
+# that is, and the peak memory, which counts what this script held when it began the program. All must write the same table.
+# It says how many processors there are.
 set -euo pipefail
 top=$(cd "$(dirname "$0")/.." && pwd)
 program=${1:-$top/built/timetable}
