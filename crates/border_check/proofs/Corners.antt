@@ -5,13 +5,12 @@ use Rattle.std.specs.Prelude.{◌≤ℤ◌, ◌<ℤ◌, int_lt}
 use Rattle.std.specs.Option.{is_some}
 use Rattle.std.proofs.lemmas.Int.{ints, by_lt_z}
 use Rattle.std.proofs.lemmas.Bool.{false≢true}
-use Rattle.region.specs.Plane.{Place, Segment, Box, IsIn, orientation}
-use Rattle.region.specs.Named.{edge_point}
-use Rattle.region.specs.Laws.{IsOrdered, misses_latitudes, misses_longitudes}
-use Rattle.region.proofs.Products.{expand, mul_nonneg, mul_pos}
-use Rattle.region.proofs.Truth.{and_true, and_left, and_right, or_left, or_right, or_cases, lt_true, is_lt}
-use Rattle.region.proofs.Apart.{Apart, beyond_west, beyond_east, beyond_south, beyond_north, box_left, box_right, apart}
-use Rattle.region.proofs.Beyond.{none_apart, names_none_beyond}
+use Rattle.plane_edges.specs.Plane.{Place, Segment, Box, IsIn, orientation, IsOrdered}
+use Rattle.plane_edges.specs.EdgePoints.{edge_point, misses_latitudes, misses_longitudes}
+use Rattle.plane_edges.proofs.Products.{expand, mul_nonneg, mul_pos}
+use Rattle.plane_edges.proofs.Truth.{and_true, and_left, and_right, or_left, or_right, or_cases, lt_true, is_lt}
+use Rattle.plane_edges.proofs.Apart.{Apart, beyond_west, beyond_east, beyond_south, beyond_north, box_left, box_right, apart}
+use Rattle.plane_edges.proofs.Beyond.{none_apart, names_none_beyond}
 use Rattle.border_check.specs.Shares.{meets}
 use Rattle.border_check.specs.Sides.{whole, all_left, all_right}
 

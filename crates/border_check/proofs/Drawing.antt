@@ -10,7 +10,7 @@ use Rattle.region.specs.Rings.{Ring, Polygon, is_closed}
 use Rattle.region.specs.Extent.{is_far, positions_of}
 use Rattle.region.specs.Faults.{ring_fault, lacks_ring, first_fault}
 use Rattle.region.specs.Laws.{are_closed}
-use Rattle.region.proofs.Truth.{and_true, and_left, and_right, or_none_left, or_none_right}
+use Rattle.plane_edges.proofs.Truth.{and_true, and_left, and_right, or_none_left, or_none_right}
 use Rattle.region.proofs.Counting.{ring_fault-append}
 use Rattle.region.proofs.Sound.{else_none, sound}
 use Rattle.border_check.specs.Borders.{border_fault, positions_in, IsDrawn}

@@ -4,10 +4,10 @@ use Rattle.std.specs.Prelude.{count_by}
 use Rattle.std.specs.List.{filter, list_any}
 use Rattle.std.proofs.lemmas.List.Folds.{list_any-append}
 use Rattle.std.proofs.lemmas.List.Elements.{filter-append}
-use Rattle.region.specs.Plane.{Box, Segment}
-use Rattle.region.specs.Rings.{xor, is_odd, Position, Ring, Polygon, edge_between, edges_from, ring_edges, polygon_edges}
+use Rattle.plane_edges.specs.Plane.{Box, Segment, xor}
+use Rattle.region.specs.Rings.{is_odd, Position, Ring, Polygon, edge_between, edges_from, ring_edges, polygon_edges}
 use Rattle.region.specs.Extent.{is_far, positions_of}
-use Rattle.region.proofs.Truth.{neither}
+use Rattle.plane_edges.proofs.Truth.{neither}
 use Rattle.region.specs.Faults.{is_empty}
 use Rattle.region.proofs.Odd.{odd_by, odd_by-append, is_odd-count_by, xor_assoc, xor_false}
 use Rattle.border_check.specs.Borders.{positions_in}

@@ -3,14 +3,14 @@ use Rattle.std.proofs.Common.{◌≡◌, inl, inr, Bool, true, false, ◌||◌, 
 use Rattle.std.specs.Option.{is_some, is_none, option_or}
 use Rattle.std.specs.List.{list_any}
 use Rattle.std.proofs.lemmas.Bool.{false≢true}
-use Rattle.region.specs.Plane.{Place, Segment, Box, IsIn, is_on}
-use Rattle.region.specs.Named.{edge_point, first_point, corner}
+use Rattle.plane_edges.specs.Plane.{Place, Segment, Box, IsIn, is_on, IsOrdered}
+use Rattle.plane_edges.specs.EdgePoints.{edge_point, first_point, corner}
 use Rattle.region.specs.Faults.{is_empty}
-use Rattle.region.specs.Laws.{IsOrdered}
-use Rattle.region.proofs.Truth.{or_left, or_right, or_some}
-use Rattle.region.proofs.Apart.{apart}
-use Rattle.region.proofs.OnEdge.{edge_met}
-use Rattle.region.proofs.Wholly.{off_apart, corner_ordered}
+use Rattle.plane_edges.proofs.Truth.{or_left, or_right, or_some}
+use Rattle.plane_edges.proofs.Apart.{apart}
+use Rattle.plane_edges.proofs.OnEdge.{edge_met}
+use Rattle.plane_edges.proofs.OffEdge.{off_apart}
+use Rattle.plane_edges.proofs.Parity.{corner_ordered}
 use Rattle.border_check.specs.Shares.{meets, near}
 
 -- a box that lies within another one

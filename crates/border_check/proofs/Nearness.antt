@@ -3,7 +3,7 @@ use Rattle.std.proofs.Common.{◌≡◌, ◌<◌, ◌^◌, Bool, true, false, co
 use Rattle.std.proofs.Math.IntN.{ℤ, pos, ◌+ℤ◌, ◌*ℤ◌, neg_ℤ}
 use Rattle.std.specs.Prelude.{◌≤ℤ◌, ◌<ℤ◌}
 use Rattle.std.proofs.lemmas.Int.{ints}
-use Rattle.region.specs.Magnitude.{IsWithin}
+use Rattle.plane_edges.specs.Magnitude.{IsWithin}
 use Rattle.region.specs.Rings.{Position}
 use Rattle.region.specs.Extent.{is_far}
 use Rattle.region.proofs.Along.{near}

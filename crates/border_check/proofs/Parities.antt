@@ -5,13 +5,13 @@ use Rattle.std.specs.Ordering.{int_eq}
 use Rattle.std.specs.Option.{is_some}
 use Rattle.std.specs.List.{list_all}
 use Rattle.std.proofs.lemmas.Int.{ints}
-use Rattle.region.specs.Plane.{Place, Segment, Box, IsIn, crosses}
-use Rattle.region.specs.Rings.{xor, Position, Ring, Polygon, edge_between, edges_from, ring_edges, polygon_edges, last_after, is_closed}
-use Rattle.region.specs.Named.{edge_point, corner}
-use Rattle.region.proofs.Truth.{same, by_same, by_table, and_left, and_right}
+use Rattle.plane_edges.specs.Plane.{Place, Segment, Box, IsIn, crosses, xor}
+use Rattle.region.specs.Rings.{Position, Ring, Polygon, edge_between, edges_from, ring_edges, polygon_edges, last_after, is_closed}
+use Rattle.plane_edges.specs.EdgePoints.{edge_point, corner}
+use Rattle.plane_edges.proofs.Truth.{same, by_same, by_table, and_left, and_right}
 use Rattle.region.proofs.Odd.{odd_by, odd_by-append, is_odd-count_by}
-use Rattle.region.proofs.Apart.{apart}
-use Rattle.region.proofs.Parity.{passed, alike}
+use Rattle.plane_edges.proofs.Apart.{apart}
+use Rattle.plane_edges.proofs.Parity.{passed, alike}
 use Rattle.border_check.specs.Shares.{meets, near, odd_at, changes}
 
 swapped : (a b c d : Bool) → xor (xor a b) (xor c d) ≡ xor (xor a c) (xor b d)

@@ -3,14 +3,15 @@ use Rattle.std.proofs.Common.{◌≡◌, Bool, true, false, not, ◌&&◌, ◌||
 use Rattle.std.specs.Prelude.{count_by}
 use Rattle.std.specs.Option.{is_none, option_or}
 use Rattle.std.specs.List.{list_any, list_all, flat_map}
-use Rattle.region.specs.Plane.{Segment, Box, is_on}
-use Rattle.region.specs.Rings.{xor, Polygon, polygon_edges, is_closed, is_odd, is_in_district}
-use Rattle.region.specs.Named.{first_point, corner}
+use Rattle.plane_edges.specs.Plane.{Segment, Box, is_on, xor, IsOrdered}
+use Rattle.region.specs.Rings.{Polygon, polygon_edges, is_closed, is_odd, is_in_district}
+use Rattle.plane_edges.specs.EdgePoints.{first_point, corner}
 use Rattle.region.specs.Faults.{is_empty}
-use Rattle.region.specs.Laws.{IsOrdered, are_closed}
-use Rattle.region.proofs.Truth.{and_left, and_right}
+use Rattle.region.specs.Laws.{are_closed}
+use Rattle.plane_edges.proofs.Truth.{and_left, and_right}
 use Rattle.region.proofs.Odd.{is_odd-count_by}
-use Rattle.region.proofs.Wholly.{first_point-append, corner_ordered}
+use Rattle.region.proofs.Wholly.{first_point-append}
+use Rattle.plane_edges.proofs.Parity.{corner_ordered}
 use Rattle.border_check.specs.Shares.{near, odd_at, PartView, ShareView, with_part, part_of, share_of, changes, part_within, parts_within, share_within}
 use Rattle.border_check.specs.Settled.{is_clear, is_settled, settles}
 use Rattle.border_check.proofs.Meeting.{IsInner, inner_corner, near_near, none_near, none_on}

@@ -8,13 +8,14 @@ use Rattle.std.proofs.Math.Nat.{pow-suc}
 use Rattle.std.proofs.lemmas.Nat.{pow_pos}
 use Rattle.std.proofs.lemmas.Int.{ints, by_lt_z}
 use Rattle.std.proofs.lemmas.Bool.{false≢true}
-use Rattle.region.specs.Plane.{Place, Box, IsIn}
+use Rattle.plane_edges.specs.Plane.{Place, Box, IsIn, IsOrdered}
 use Rattle.region.specs.Rings.{Polygon, polygon_edges, is_in_district}
-use Rattle.region.specs.Named.{first_point, corner}
-use Rattle.region.specs.Laws.{IsOrdered, are_closed}
-use Rattle.region.proofs.Products.{times_mono}
-use Rattle.region.proofs.Truth.{and_left, and_right, not_false, or_cases, or_none_left, or_none_right, or_some, neither}
-use Rattle.region.proofs.Wholly.{in_district_alike, first_in, corner_ordered}
+use Rattle.plane_edges.specs.EdgePoints.{first_point, corner}
+use Rattle.region.specs.Laws.{are_closed}
+use Rattle.plane_edges.proofs.Products.{times_mono}
+use Rattle.plane_edges.proofs.Truth.{and_left, and_right, not_false, or_cases, or_none_left, or_none_right, or_some, neither}
+use Rattle.region.proofs.Wholly.{in_district_alike, first_in}
+use Rattle.plane_edges.proofs.Parity.{corner_ordered}
 use Rattle.border_check.specs.declared.squares.Square.{Square}
 use Rattle.border_check.specs.Squares.{side, box_in, half, quarter}
 use Rattle.border_check.specs.Shares.{ShareView, share_of, share_within}

@@ -1,7 +1,7 @@
 -- What a tree without an unsettled square shows, and what an unsettled one does.
 use Rattle.std.specs.Prelude.{◌≡◌, ◌⊎◌, List, Some, None, IsTrue, IsFalse}
 use Rattle.std.specs.List.{list_any, flat_map}
-use Rattle.region.specs.Plane.{Place, Box, IsIn, is_on}
+use Rattle.plane_edges.specs.Plane.{Place, Box, IsIn, is_on}
 use Rattle.region.specs.Rings.{Polygon, polygon_edges, is_in_district}
 use Rattle.region.specs.Laws.{are_closed}
 use Rattle.border_check.specs.declared.squares.Square.{Square}

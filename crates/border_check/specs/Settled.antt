@@ -2,9 +2,9 @@
 use Rattle.std.specs.Prelude.{ℕ, zero, suc, Bool, true, false, not, ◌&&◌, ◌||◌, if◌then◌else◌, List, Option, Some, None}
 use Rattle.std.specs.Option.{is_none, option_or}
 use Rattle.std.specs.List.{flat_map}
-use Rattle.region.specs.Plane.{Box}
+use Rattle.plane_edges.specs.Plane.{Box}
 use Rattle.region.specs.Rings.{Polygon, polygon_edges, is_in_district}
-use Rattle.region.specs.Named.{first_point, corner}
+use Rattle.plane_edges.specs.EdgePoints.{first_point, corner}
 use Rattle.region.specs.Faults.{is_empty}
 use Rattle.border_check.specs.declared.squares.Square.{Square}
 use Rattle.border_check.specs.Shares.{ShareView, share_within}

@@ -3,9 +3,9 @@
 use Rattle.std.specs.Prelude.{ℤ, int_lt, Bool, false, not, ◌&&◌, ◌||◌, if◌then◌else◌, List, [], ◌∷◌, ◌++◌, count_by}
 use Rattle.std.specs.Option.{is_some}
 use Rattle.std.specs.List.{filter}
-use Rattle.region.specs.Plane.{Place, Segment, Box, is_above, crosses}
-use Rattle.region.specs.Rings.{Polygon, polygon_edges, is_odd, xor}
-use Rattle.region.specs.Named.{edge_point, corner}
+use Rattle.plane_edges.specs.Plane.{Place, Segment, Box, is_above, crosses, xor}
+use Rattle.region.specs.Rings.{Polygon, polygon_edges, is_odd}
+use Rattle.plane_edges.specs.EdgePoints.{edge_point, corner}
 use Rattle.region.specs.Faults.{is_empty}
 
 -- some place of the edge is in the box

@@ -1,6 +1,6 @@
 -- On which side of an edge's line the corners of a box are.
 use Rattle.std.specs.Prelude.{ℤ, pos, int_lt, Bool, ◌&&◌}
-use Rattle.region.specs.Plane.{Place, Segment, Box, orientation}
+use Rattle.plane_edges.specs.Plane.{Place, Segment, Box, orientation}
 
 -- the place with whole coordinates
 abbrev pub whole : ℤ → ℤ → Place

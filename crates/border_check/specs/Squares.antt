@@ -1,6 +1,6 @@
 -- Squares of places, and their quarters. Places are in place units, 128 to a microdegree.
 use Rattle.std.specs.Prelude.{◌^◌, ◌-◌, ◌≤◌, Bool, if◌then◌else◌, ℤ, pos, neg_ℤ, ◌+ℤ◌, ◌≤ℤ◌}
-use Rattle.region.specs.Plane.{Box}
+use Rattle.plane_edges.specs.Plane.{Box}
 use Rattle.border_check.specs.declared.squares.Square.{Square}
 
 abbrev pub side : Square → ℤ

@@ -1,5 +1,5 @@
 -- The boxes and the edges that the code's values stand for.
-use Rattle.region.specs.Plane.{Segment, Box}
+use Rattle.plane_edges.specs.Plane.{Segment, Box}
 use Rattle.border_check.specs.declared.edges.Edge.{Edge}
 use Rattle.border_check.specs.declared.extents.Extent.{Extent}
 

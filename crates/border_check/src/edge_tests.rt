@@ -1,9 +1,8 @@
 // How an edge stands to a box, and to the way from the box's corner to a place.
 ghost use Rattle.std.specs.Prelude.{◌≡◌, ◌^◌, ◌≤ℤ◌, ◌-ℤ◌, ◌*ℤ◌, pos, int_lt, not, ◌&&◌, ◌||◌, if◌then◌else◌};
-ghost use Rattle.region.specs.Magnitude.{IsWithin};
-ghost use Rattle.region.specs.Plane.{orientation, is_above, crosses};
-ghost use Rattle.region.specs.Rings.{xor};
-ghost use Rattle.region.specs.Laws.{misses_latitudes, misses_longitudes};
+ghost use Rattle.plane_edges.specs.Magnitude.{IsWithin};
+ghost use Rattle.plane_edges.specs.Plane.{orientation, is_above, crosses, xor};
+ghost use Rattle.plane_edges.specs.EdgePoints.{misses_latitudes, misses_longitudes};
 ghost use Rattle.border_check.specs.Shares.{meets, is_passed, changes};
 ghost use Rattle.border_check.specs.Sides.{whole, all_left, all_right};
 ghost use Rattle.border_check.specs.Views.{box_of, segment_of};

@@ -1,5 +1,5 @@
 ghost use Rattle.std.specs.Prelude.{pos};
-ghost use Rattle.region.specs.Magnitude.{IsWithin};
+ghost use Rattle.plane_edges.specs.Magnitude.{IsWithin};
 
 /// The edge from `(xa, ya)` to `(xb, yb)` of a ring, in place units (128 to a microdegree), however long.
 #[derive(Clone, Copy)]

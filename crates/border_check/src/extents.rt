@@ -1,5 +1,5 @@
 ghost use Rattle.std.specs.Prelude.{◌^◌, pos, ◌≤ℤ◌};
-ghost use Rattle.region.specs.Magnitude.{IsWithin};
+ghost use Rattle.plane_edges.specs.Magnitude.{IsWithin};
 
 /// The closed box of the places with longitudes from `x0` to `x1` and latitudes from `y0` to `y1`, in place units
 /// (128 to a microdegree). Its ends are within 2^36 either way.

@@ -3,9 +3,9 @@ ghost use Rattle.std.specs.Prelude.{◌≡◌, ℤ, pos, ◌*ℤ◌, map, [], �
 ghost use Rattle.std.specs.List.{list_any};
 ghost use Rattle.region.specs.Extent.{is_far};
 ghost use Rattle.region.specs.Faults.{is_empty};
-ghost use Rattle.region.specs.Named.{corner};
-ghost use Rattle.region.specs.Plane.{crosses};
-ghost use Rattle.region.specs.Rings.{edge_between, edges_from, ring_edges, polygon_edges, xor};
+ghost use Rattle.plane_edges.specs.EdgePoints.{corner};
+ghost use Rattle.plane_edges.specs.Plane.{crosses, xor};
+ghost use Rattle.region.specs.Rings.{edge_between, edges_from, ring_edges, polygon_edges};
 ghost use Rattle.region.specs.Vectors.{rings_in};
 ghost use Rattle.border_check.specs.Borders.{positions_in};
 ghost use Rattle.border_check.specs.Shares.{PartView, near, grown, part_of, part_within, meets};

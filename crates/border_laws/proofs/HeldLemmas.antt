@@ -5,11 +5,11 @@ use Rattle.std.specs.Prelude.{◌≤ℤ◌, ◌<ℤ◌, fold}
 use Rattle.std.specs.Int.{int_min, int_max}
 use Rattle.std.specs.List.{list_any}
 use Rattle.std.proofs.lemmas.Int.{ints, clamps}
-use Rattle.region.specs.Plane.{Place, IsIn}
+use Rattle.plane_edges.specs.Plane.{Place, IsIn}
 use Rattle.region.specs.Rings.{Position, Polygon, is_in_district}
 use Rattle.region.specs.Extent.{is_far, longitudes, latitudes, least, greatest, positions_of}
-use Rattle.region.proofs.Products.{times_mono}
-use Rattle.region.proofs.Truth.{neither}
+use Rattle.plane_edges.proofs.Products.{times_mono}
+use Rattle.plane_edges.proofs.Truth.{neither}
 use Rattle.region.proofs.Along.{near}
 use Rattle.region.proofs.Reach.{AllIn}
 use Rattle.cell_split.specs.declared.verdict.Entry.TheVariants.{Minute, Whole, Never, Open}

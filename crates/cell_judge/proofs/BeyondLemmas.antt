@@ -4,11 +4,10 @@ use Rattle.std.specs.Prelude.{pos, ◌+ℤ◌, ◌*ℤ◌, ◌<ℤ◌, List, Opt
 use Rattle.std.proofs.lemmas.Int.{ints}
 use Rattle.region.specs.Extent.{latitudes, longitudes, greatest}
 use Rattle.region.specs.Faults.{first_fault}
-use Rattle.region.specs.Laws.{IsOrdered}
+use Rattle.plane_edges.specs.Plane.{IsOrdered, Box, IsIn, Place}
 use Rattle.region.specs.Named.{named}
-use Rattle.region.specs.Plane.{Box, IsIn, Place}
 use Rattle.region.specs.Rings.{Polygon, is_in_district}
-use Rattle.region.proofs.Products.{times_strict}
+use Rattle.plane_edges.proofs.Products.{times_strict}
 use Rattle.region.proofs.Sound.{sound}
 use Rattle.region.proofs.Wholly.{names_exactly}
 use Rattle.cell_split.specs.declared.cell.Cell.{Cell}

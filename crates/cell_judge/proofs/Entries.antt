@@ -3,9 +3,9 @@ use Rattle.std.proofs.Common.{◌≡◌, ℕ, zero, suc, ◌-◌, ◌<◌, ◌�
 use Rattle.std.specs.Prelude.{max, nat_lt, ◌==◌, find}
 use Rattle.std.proofs.lemmas.Bool.{false≢true}
 use Rattle.std.proofs.lemmas.Bool.Decides.{nat_tests}
-use Rattle.region.specs.Plane.{Place}
-use Rattle.region.proofs.Truth.{and_left, and_right, and_true}
-use Rattle.region.specs.Views.{place_of}
+use Rattle.plane_edges.specs.Plane.{Place}
+use Rattle.plane_edges.proofs.Truth.{and_left, and_right, and_true}
+use Rattle.plane_edges.specs.Views.{place_of}
 use Rattle.cell_split.specs.declared.cell.Cell.{Cell}
 use Rattle.cell_split.specs.declared.verdict.Entry.TheVariants.{Minute, Whole, Never}
 use Rattle.cell_split.specs.declared.verdict.Leaf.{Leaf}

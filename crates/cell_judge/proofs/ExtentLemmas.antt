@@ -7,9 +7,9 @@ use Rattle.std.proofs.lemmas.Int.{ints, clamps}
 use Rattle.region.specs.Rings.{Position, Polygon}
 use Rattle.region.specs.Extent.{is_far, is_wide, longitudes, latitudes, least, greatest, positions_of}
 use Rattle.region.specs.Faults.{first_fault}
-use Rattle.region.proofs.Truth.{is_ge, neither}
+use Rattle.plane_edges.proofs.Truth.{is_ge, neither}
 use Rattle.region.proofs.Along.{near}
-use Rattle.region.proofs.Products.{times_mono}
+use Rattle.plane_edges.proofs.Products.{times_mono}
 use Rattle.region.proofs.Reach.{AllIn}
 use Rattle.region.proofs.Sound.{sound}
 use Rattle.cell_split.specs.declared.cell.Cell.{Cell}

@@ -4,10 +4,10 @@ use Rattle.std.specs.Prelude.{ℤ, pos, neg_ℤ, ◌≤ℤ◌}
 use Rattle.std.specs.Option.{option_map}
 use Rattle.std.proofs.Props.{props}
 use Rattle.std.proofs.lemmas.Int.{clamps, ints}
-use Rattle.region.specs.declared.points.Point.{Point}
-use Rattle.region.specs.Magnitude.{IsWithin}
-use Rattle.region.specs.Plane.{Place}
-use Rattle.region.specs.Views.{place_of}
+use Rattle.plane_edges.specs.declared.points.Point.{Point}
+use Rattle.plane_edges.specs.Magnitude.{IsWithin}
+use Rattle.plane_edges.specs.Plane.{Place}
+use Rattle.plane_edges.specs.Views.{place_of}
 use Rattle.cell_judge.specs.Points.{IsPoint, held, held_is_point, held_place, point_at, point_of}
 
 -- what is within the limits stays as it is

@@ -18,15 +18,14 @@ use Rattle.method_table.specs.declared.problem.Problem.{Problem}
 use Rattle.method_table.specs.declared.problem.Side.{Side}
 use Rattle.method_table.specs.declared.problem.Side.TheVariants.{Start, End}
 use Rattle.method_table.specs.Row.{Row, minute_at, row_of, time_of}
-use Rattle.region.specs.declared.points.Point.{Point}
-use Rattle.region.specs.Plane.{IsIn, Place}
+use Rattle.plane_edges.specs.declared.points.Point.{Point}
+use Rattle.plane_edges.specs.Plane.{IsIn, Place, IsOrdered}
 use Rattle.region.specs.Rings.{Polygon, is_in_district}
 use Rattle.region.specs.Faults.{first_fault}
-use Rattle.region.specs.Laws.{IsOrdered}
 use Rattle.region.specs.Named.{named}
-use Rattle.region.specs.Views.{place_of}
+use Rattle.plane_edges.specs.Views.{place_of}
 use Rattle.region.proofs.Sound.{sound}
-use Rattle.region.proofs.Truth.{and_left, and_right}
+use Rattle.plane_edges.proofs.Truth.{and_left, and_right}
 use Rattle.region.proofs.Wholly.{names_exactly}
 use Rattle.cell_split.specs.declared.cell.Cell.{Cell}
 use Rattle.cell_split.specs.declared.verdict.Verdict.TheVariants.{Proved, Refuted, Split, Open}

@@ -3,10 +3,10 @@ use Rattle.std.proofs.Common.{◌≡◌, ℕ, ◌*◌, ◌^◌, List, Some}
 use Rattle.std.specs.Prelude.{ℤ, pos, ◌+ℤ◌}
 use Rattle.std.specs.List.{slice_get}
 use Rattle.std.proofs.lemmas.Option.{get_or_from_slice_get, slice_get_within}
-use Rattle.region.specs.declared.rects.Rect.{Rect}
+use Rattle.plane_edges.specs.declared.rects.Rect.{Rect}
 use Rattle.region.specs.Rings.{Polygon}
 use Rattle.region.specs.Strips.{AreStripsOf, IsStripOf, StripView}
-use Rattle.region.specs.Views.{box_of as box_of_rect}
+use Rattle.plane_edges.specs.Views.{box_of as box_of_rect}
 use Rattle.cell_split.specs.declared.cell.Cell.{Cell}
 use Rattle.cell_split.specs.Cells.{side}
 use Rattle.cell_split.specs.Laws.{box_of}

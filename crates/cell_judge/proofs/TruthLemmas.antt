@@ -24,7 +24,7 @@ use Rattle.method_table.specs.declared.problem.Side.{Side}
 use Rattle.method_table.specs.declared.problem.Side.TheVariants.{Start, End}
 use Rattle.method_table.specs.Kind.{IsAngleRange, IsKind}
 use Rattle.method_table.specs.Row.{Row, minute_at, time_of}
-use Rattle.region.specs.Plane.{IsIn, Place}
+use Rattle.plane_edges.specs.Plane.{IsIn, Place}
 use Rattle.cell_split.specs.declared.cell.Cell.{Cell}
 use Rattle.cell_split.specs.Cells.{side}
 use Rattle.cell_split.specs.Laws.{box_of}

@@ -2,7 +2,7 @@
 use Rattle.std.proofs.Common.{◌≡◌, true, false}
 use Rattle.fixed_interval.specs.Grid.{Ends}
 use Rattle.method_table.specs.declared.problem.Kind.{Kind}
-use Rattle.region.specs.declared.points.Point.{Point}
+use Rattle.plane_edges.specs.declared.points.Point.{Point}
 use Rattle.cell_split.specs.declared.cell.Cell.{Cell}
 use Rattle.cell_split.specs.declared.verdict.Verdict.TheVariants.{Proved, Refuted, Split, Open}
 use Rattle.cell_split.specs.Cells.{is_smallest}

@@ -9,7 +9,7 @@ use Rattle.altitude_test.specs.Conditions.{Spot, IsAbove, IsBelow, IsWithin, alt
 use Rattle.asr_test.specs.AsrLaws.{asr_at}
 use Rattle.method_table.specs.declared.problem.Kind.{Kind}
 use Rattle.method_table.specs.declared.problem.Kind.TheVariants.{Above, Below, Past, Shadow}
-use Rattle.region.specs.Plane.{Place}
+use Rattle.plane_edges.specs.Plane.{Place}
 
 -- the place as two fractions
 unfoldable pub spot_of : Place → Spot

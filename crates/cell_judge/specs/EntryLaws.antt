@@ -2,7 +2,7 @@
 use Rattle.std.specs.Prelude.{◌≡◌, ◌<◌, ℕ, None}
 use Rattle.solar_terms.specs.SunLaws.{IsSunSource}
 use Rattle.method_table.specs.Kind.{IsKind}
-use Rattle.region.specs.Plane.{Place, IsIn}
+use Rattle.plane_edges.specs.Plane.{Place, IsIn}
 use Rattle.region.specs.Extent.{longitudes, latitudes, least}
 use Rattle.region.specs.Faults.{first_fault}
 use Rattle.cell_split.specs.declared.cell.Cell.{Cell}

@@ -6,8 +6,8 @@ use Rattle.solar_terms.specs.Sun.{SunTerms}
 use Rattle.sun_choice.specs.declared.choice.SunChoice.{SunChoice}
 use Rattle.chosen_sun.specs.Suns.{grid_sun_of}
 use Rattle.method_table.specs.Row.{Row}
-use Rattle.region.specs.declared.points.Point.{Point}
-use Rattle.region.specs.Plane.{Place}
+use Rattle.plane_edges.specs.declared.points.Point.{Point}
+use Rattle.plane_edges.specs.Plane.{Place}
 use Rattle.region.specs.Rings.{Polygon}
 use Rattle.region.specs.Named.{named}
 use Rattle.cell_split.specs.declared.cell.Cell.{Cell}

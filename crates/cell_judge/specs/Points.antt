@@ -3,9 +3,9 @@ use Rattle.std.specs.Prelude.{◌^◌, ℤ, pos, neg_ℤ, ◌≤ℤ◌}
 use Rattle.std.specs.Int.{int_max, int_min}
 use Rattle.std.proofs.Common.{arith}
 use Rattle.std.proofs.lemmas.Int.{clamps, ints}
-use Rattle.region.specs.declared.points.Point.{Point}
-use Rattle.region.specs.Magnitude.{IsWithin}
-use Rattle.region.specs.Plane.{Place}
+use Rattle.plane_edges.specs.declared.points.Point.{Point}
+use Rattle.plane_edges.specs.Magnitude.{IsWithin}
+use Rattle.plane_edges.specs.Plane.{Place}
 
 -- the place is within the limits of points
 pub record IsPoint (p : Place) : Type 0 where

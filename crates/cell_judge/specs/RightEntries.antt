@@ -1,6 +1,6 @@
 -- When an entry of the table is right: what it says of every rational place of the district at every minute to its frame's end.
 use Rattle.std.specs.Prelude.{◌≡◌, ℕ, ◌+◌, ◌-◌, ◌≤◌, ◌<◌, true}
-use Rattle.region.specs.Plane.{Place, IsIn}
+use Rattle.plane_edges.specs.Plane.{Place, IsIn}
 use Rattle.cell_split.specs.declared.cell.Cell.{Cell}
 use Rattle.cell_split.specs.declared.verdict.Entry.{Entry}
 use Rattle.cell_split.specs.declared.verdict.Entry.TheVariants.{Minute, Whole, Never, Open}

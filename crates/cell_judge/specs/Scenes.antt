@@ -2,13 +2,13 @@
 use Rattle.std.specs.Prelude.{ℕ, ◌≤◌, pos, ◌<ℤ◌, List, IsTrue}
 use Rattle.solar_terms.specs.SunLaws.{SunSource}
 use Rattle.method_table.specs.Row.{Row, time_of}
-use Rattle.region.specs.Plane.{Place, IsIn}
+use Rattle.plane_edges.specs.Plane.{Place, IsIn}
 use Rattle.region.specs.Rings.{Polygon, is_in_district}
 use Rattle.cell_split.specs.declared.cell.Cell.{Cell}
 use Rattle.cell_split.specs.declared.verdict.Verdict.{Verdict}
 use Rattle.cell_split.specs.declared.verdict.Verdict.TheVariants.{Outside, Proved, Refuted, Split, Open}
 use Rattle.cell_split.specs.Laws.{box_of}
-use Rattle.region.specs.Views.{place_of}
+use Rattle.plane_edges.specs.Views.{place_of}
 use Rattle.cell_judge.specs.Conditions.{Holds, Fails, IsNear}
 
 -- the sun that is taken, the problem and the district's polygons

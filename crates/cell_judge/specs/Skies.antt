@@ -13,8 +13,8 @@ use Rattle.method_table.specs.declared.problem.Kind.TheVariants.{Above, Below, P
 use Rattle.method_table.specs.declared.problem.Side.{Side}
 use Rattle.method_table.specs.declared.problem.Side.TheVariants.{Start, End}
 use Rattle.method_table.specs.Row.{Row, row, time_of}
-use Rattle.region.specs.declared.points.Point.{Point}
-use Rattle.region.specs.Plane.{Place}
+use Rattle.plane_edges.specs.declared.points.Point.{Point}
+use Rattle.plane_edges.specs.Plane.{Place}
 use Rattle.region.specs.Rings.{Polygon}
 use Rattle.region.specs.Named.{named}
 use Rattle.cell_split.specs.declared.cell.Cell.{Cell}

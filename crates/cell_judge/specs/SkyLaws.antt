@@ -8,10 +8,10 @@ use Rattle.chosen_sun.specs.Suns.{IsSun, exact_sun_of}
 use Rattle.method_table.specs.declared.problem.Problem.{Problem}
 use Rattle.method_table.specs.Kind.{IsKind}
 use Rattle.method_table.specs.Row.{Row, row_of}
-use Rattle.region.specs.Plane.{Place}
+use Rattle.plane_edges.specs.Plane.{Place}
 use Rattle.region.specs.Rings.{Polygon}
 use Rattle.region.specs.Named.{named}
-use Rattle.region.specs.Views.{place_of}
+use Rattle.plane_edges.specs.Views.{place_of}
 use Rattle.region.specs.Faults.{first_fault}
 use Rattle.cell_split.specs.declared.cell.Cell.{Cell}
 use Rattle.cell_split.specs.Cells.{IsCell, IsRoot}

@@ -3,11 +3,11 @@
 use Rattle.std.specs.Prelude.{◌≡◌, ℕ, ◌+◌, ◌-◌, ◌*◌, ◌/◌, ◌^◌, min, pos, ◌+ℤ◌, ◌-ℤ◌, ◌*ℤ◌, unsigned_abs, List, length, Option}
 use Rattle.std.specs.Option.{option_map}
 use Rattle.std.specs.declared.vec.Vec.{Vec}
-use Rattle.region.specs.declared.points.Point.{Point}
+use Rattle.plane_edges.specs.declared.points.Point.{Point}
 use Rattle.region.specs.Extent.{latitudes, longitudes, greatest}
 use Rattle.region.specs.Rings.{Polygon}
 use Rattle.region.specs.Named.{named}
-use Rattle.region.specs.Views.{place_of}
+use Rattle.plane_edges.specs.Views.{place_of}
 use Rattle.cell_split.specs.declared.cell.Cell.{Cell}
 use Rattle.cell_split.specs.Laws.{box_of}
 use Rattle.cell_judge.specs.Each.{Each}

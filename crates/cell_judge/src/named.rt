@@ -1,9 +1,9 @@
 // The place that is named for a cell's box, asked of as few edges as serve.
 ghost use Rattle.std.specs.Prelude.{◌≡◌, ◌^◌, IfSome, pos, ◌+ℤ◌, ◌≤ℤ◌, ◌<ℤ◌};
 ghost use Rattle.std.specs.Option.{option_map};
-ghost use Rattle.region.specs.Magnitude.{IsWithin};
+ghost use Rattle.plane_edges.specs.Magnitude.{IsWithin};
 ghost use Rattle.region.specs.Named.{named};
-ghost use Rattle.region.specs.Views.{place_of};
+ghost use Rattle.plane_edges.specs.Views.{place_of};
 ghost use Rattle.cell_split.specs.Cells.{IsCellOf};
 ghost use Rattle.cell_split.specs.Laws.{box_of};
 ghost use Rattle.cell_judge.specs.Strips.{IsInStrip};

@@ -2,8 +2,8 @@
 ghost use Rattle.std.specs.Prelude.{◌≡◌, ◌+◌, ◌-◌, ◌*◌, ◌/◌, ◌^◌, ◌<◌, ◌≤◌, min, pos, ◌+ℤ◌, ◌-ℤ◌, ◌*ℤ◌, ◌≤ℤ◌, neg_ℤ, unsigned_abs, IfOk, IfSome};
 ghost use Rattle.std.specs.Option.{option_map};
 ghost use Rattle.region.specs.Named.{named};
-ghost use Rattle.region.specs.Views.{place_of};
-ghost use Rattle.region.specs.Magnitude.{IsWithin};
+ghost use Rattle.plane_edges.specs.Views.{place_of};
+ghost use Rattle.plane_edges.specs.Magnitude.{IsWithin};
 ghost use Rattle.region.specs.Strips.{IsBandOf};
 ghost use Rattle.cell_split.specs.Cells.{IsCellOf, IsRoot};
 ghost use Rattle.cell_split.specs.Laws.{box_of};

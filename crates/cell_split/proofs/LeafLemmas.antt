@@ -5,7 +5,7 @@ use Rattle.std.proofs.Math.Nat.{one-le-pow}
 use Rattle.std.proofs.lemmas.Bool.{false≢true}
 use Rattle.std.proofs.lemmas.Int.{ints}
 use Rattle.std.proofs.lemmas.List.Elements.{All-contains, All-from_recursion}
-use Rattle.region.specs.Plane.{Place}
+use Rattle.plane_edges.specs.Plane.{Place}
 use Rattle.cell_split.specs.declared.cell.Cell.{Cell}
 use Rattle.cell_split.specs.declared.cell.Children.{Children}
 use Rattle.cell_split.specs.declared.cell.Task.{Task}

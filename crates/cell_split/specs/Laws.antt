@@ -1,6 +1,6 @@
 -- What is true of every cell, and of the tree of every judge.
 use Rattle.std.specs.Prelude.{◌≡◌, ◌≢◌, ◌≤◌, ◌<◌, ℕ, false, ◌+ℤ◌, ◌≤ℤ◌, [], ◌∷◌, All, AllPairs, Any, Contains, flat_map, if◌then◌else◌}
-use Rattle.region.specs.Plane.{Box, IsIn, Place}
+use Rattle.plane_edges.specs.Plane.{Box, IsIn, Place}
 use Rattle.cell_split.specs.declared.cell.Cell.{Cell}
 use Rattle.cell_split.specs.declared.cell.Task.{Task}
 use Rattle.cell_split.specs.declared.verdict.Leaf.{Leaf}

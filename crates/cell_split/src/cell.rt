@@ -2,7 +2,7 @@
 ghost use Rattle.std.specs.Prelude.{◌≡◌, ◌≤ℤ◌, neg_ℤ, pos, ◌+ℤ◌, ◌*◌, ◌≤◌, ◌^◌, ◌↔◌, IsTrue};
 ghost use Rattle.cell_split.specs.Cells.{IsCell, IsCellOf, IsFormed, IsRoot, is_smallest, root_at, side};
 
-use region::Rect;
+use plane_edges::Rect;
 
 /// The closed box with the south-west corner (`x`, `y`) and the side `2^size`, in place units (128 to a
 /// microdegree), at the ranks from `first` to `last`. Any numbers make one.

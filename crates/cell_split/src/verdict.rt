@@ -3,7 +3,7 @@ ghost use Rattle.std.specs.Prelude.{◌≡◌};
 ghost use Rattle.cell_split.specs.Verdicts.{is_refuted, is_split};
 
 use crate::cell::{Cell, Task};
-use region::Point;
+use plane_edges::Point;
 
 /// What a judge says of a cell.
 #[derive(Clone, Copy, Debug, PartialEq, Eq)]

@@ -10,7 +10,7 @@ use Rattle.method_table.specs.declared.problem.Column.{Column}
 use Rattle.method_table.specs.declared.problem.Column.TheVariants.{Asr, Dhuhr, Fajr, FajrEnd, Isha, Maghrib, MaghribEnd}
 use Rattle.method_table.specs.Row.{Row, column_word}
 use Rattle.region.specs.Rings.{Polygon}
-use Rattle.region.proofs.Truth.{and_left, and_right, and_true, le_true}
+use Rattle.plane_edges.proofs.Truth.{and_left, and_right, and_true, le_true}
 use Rattle.cell_split.specs.declared.cell.Cell.{Cell}
 use Rattle.cell_split.specs.Cells.{IsRoot}
 use Rattle.cell_split.specs.Judges.{Content, IsLawful}

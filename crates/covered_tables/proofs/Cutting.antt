@@ -4,7 +4,7 @@ use Rattle.std.specs.List.{flat_map}
 use Rattle.std.proofs.Math.Seq.{drop-append-add, take-append_seam}
 use Rattle.std.proofs.lemmas.Bool.Decides.{nat_tests}
 use Rattle.std.proofs.Common.{arith}
-use Rattle.region.proofs.Truth.{and_left, and_right}
+use Rattle.plane_edges.proofs.Truth.{and_left, and_right}
 use Rattle.cell_split.specs.declared.verdict.Entry.{Entry}
 use Rattle.cell_split.proofs.Every.{Every}
 use Rattle.command_input.specs.Lines.{behind_line, first_line, line_length}

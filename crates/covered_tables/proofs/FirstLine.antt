@@ -11,7 +11,7 @@ use Rattle.method_table.specs.declared.method.Method.{Method}
 use Rattle.method_table.specs.declared.method.Method.TheVariants.{Egypt, Isna, Jafari, Karachi, Makkah, Mwl, Tehran}
 use Rattle.night_rule.specs.declared.rule.NightRule.{NightRule}
 use Rattle.night_rule.specs.declared.rule.NightRule.TheVariants.{ByAngle, Half, Seventh}
-use Rattle.region.proofs.Truth.{and_left, and_right, and_true}
+use Rattle.plane_edges.proofs.Truth.{and_left, and_right, and_true}
 use Rattle.sun_choice.specs.declared.choice.SunChoice.{SunChoice}
 use Rattle.sun_choice.specs.declared.choice.SunChoice.TheVariants.{Meeus, Usno}
 use Rattle.command_input.specs.Lines.{behind_line, first_line}

@@ -1,7 +1,7 @@
 -- The lines of a covering: compact JSON objects, their members in the order of their names, and a line feed.
 use Rattle.std.specs.Prelude.{◌≡◌, IsUtf8, ℕ, List, [], ◌∷◌, ◌++◌, codes, ℤ, Option, Some, None}
 use Rattle.std.specs.Fmt.{signed_decimal}
-use Rattle.region.specs.declared.points.Point.{Point}
+use Rattle.plane_edges.specs.declared.points.Point.{Point}
 use Rattle.cell_split.specs.declared.cell.Cell.{Cell}
 use Rattle.serde_json.specs.Data.{Data, number, unsigned, string, array, object, no_items, item, no_members, member}
 use Rattle.serde_json.specs.Find.{of_integer}

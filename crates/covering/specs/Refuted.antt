@@ -1,7 +1,7 @@
 -- The refuted leaf that is named for a tree.
 use Rattle.std.specs.Prelude.{ℕ, ◌==◌, ◌&&◌, List, Option, Some, None, find, ℤ, pos, ◌-ℤ◌}
 use Rattle.std.specs.Option.{option_and_then, option_map}
-use Rattle.region.specs.declared.points.Point.{Point}
+use Rattle.plane_edges.specs.declared.points.Point.{Point}
 use Rattle.cell_split.specs.declared.cell.Cell.{Cell}
 use Rattle.cell_split.specs.declared.verdict.Leaf.{Leaf}
 use Rattle.cell_split.specs.declared.verdict.Verdict.{Verdict}

@@ -8,7 +8,7 @@ use crate::runs::runs_text;
 use crate::settled::Settled;
 use cell_split::Cell;
 use no_memory::NoMemory;
-use region::Point;
+use plane_edges::Point;
 use serde_json::{Value, json};
 use std::alloc::{AllocError, Global};
 

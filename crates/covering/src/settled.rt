@@ -6,7 +6,7 @@ ghost use Rattle.std.specs.Ordering.{int_eq};
 ghost use Rattle.covering.specs.Letters.{is_letter};
 
 use cell_split::{Cell, Entry};
-use region::Point;
+use plane_edges::Point;
 use std::marker::Model;
 
 /// The letters of a tree: `k`, `x`, `p`, `o` and `s`, in ASCII. Contracts see a list of bytes.

@@ -14,7 +14,7 @@ use crate::settled::{Letters, Settled};
 use cell_split::{Cell, Judge, Leaf, Task, Verdict};
 use no_memory::NoMemory;
 use plain_search::Harvest;
-use region::Point;
+use plane_edges::Point;
 use std::alloc::Global;
 
 /// Settles problem `k` from the harvest of a search for this judge: what is said holds of the whole tree,

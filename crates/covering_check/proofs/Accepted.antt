@@ -7,8 +7,8 @@ use Rattle.std.specs.Ordering.{int_eq}
 use Rattle.std.proofs.lemmas.Bool.Decides.{Decides-int_eq, nat_tests}
 use Rattle.std.proofs.lemmas.Int.{ints}
 use Rattle.std.proofs.lemmas.Slice.Eq.{bytes_eq-Decides}
-use Rattle.region.specs.declared.points.Point.{Point}
-use Rattle.region.proofs.Truth.{and_left, and_true, le_true}
+use Rattle.plane_edges.specs.declared.points.Point.{Point}
+use Rattle.plane_edges.proofs.Truth.{and_left, and_true, le_true}
 use Rattle.cell_split.specs.declared.cell.Cell.{Cell}
 use Rattle.cell_split.specs.Cells.{IsCellOf}
 use Rattle.cell_split.specs.Judges.{Content, IsLawful}

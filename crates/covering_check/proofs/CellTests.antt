@@ -3,7 +3,7 @@ use Rattle.std.proofs.Common.{◌≡◌, ◌↔◌, ◌≤◌, Bool, IsTrue, tru
 use Rattle.std.specs.Prelude.{◌&&◌, nat_le, int_le}
 use Rattle.std.proofs.lemmas.Bool.{false≢true}
 use Rattle.std.proofs.lemmas.Bool.Decides.{nat_tests}
-use Rattle.region.proofs.Truth.{and_left, and_right, and_true, is_le, le_true}
+use Rattle.plane_edges.proofs.Truth.{and_left, and_right, and_true, is_le, le_true}
 use Rattle.cell_split.specs.declared.cell.Cell.{Cell}
 use Rattle.cell_split.specs.Cells.{IsCellOf, IsFormed, LiesIn, side}
 use Rattle.covering_check.specs.Cells.{is_cell_of, is_formed, lies_in}

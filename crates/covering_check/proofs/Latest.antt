@@ -3,7 +3,7 @@ use Rattle.std.proofs.Common.{◌≡◌, ℕ, zero, suc, ◌<◌, ◌≤◌, Boo
 use Rattle.std.specs.Prelude.{◌&&◌}
 use Rattle.std.proofs.lemmas.Bool.{false≢true, cases_lt}
 use Rattle.std.proofs.lemmas.Bool.Decides.{nat_tests}
-use Rattle.region.proofs.Truth.{and_left, and_right}
+use Rattle.plane_edges.proofs.Truth.{and_left, and_right}
 use Rattle.cell_split.specs.declared.verdict.Leaf.{Leaf}
 use Rattle.cell_split.specs.Entries.{first_open, is_open_above, last_word, open_word}
 use Rattle.cell_split.specs.Verdicts.{is_open}

@@ -7,7 +7,7 @@ use Rattle.std.proofs.lemmas.Bool.{false≢true, cases_lt}
 use Rattle.std.proofs.lemmas.Bool.Decides.{nat_tests}
 use Rattle.std.proofs.lemmas.List.{drop_all, drop_more}
 use Rattle.std.proofs.lemmas.Str.{digit_value_digit}
-use Rattle.region.proofs.Truth.{and_left, and_right}
+use Rattle.plane_edges.proofs.Truth.{and_left, and_right}
 use Rattle.covering.specs.Letters.{is_letter}
 use Rattle.covering_check.specs.declared.fault.CoverFault.{CoverFault}
 use Rattle.covering_check.specs.declared.fault.CoverFault.TheVariants.{Letter, Short}

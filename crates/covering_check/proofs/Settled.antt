@@ -8,8 +8,8 @@ use Rattle.std.proofs.lemmas.Bool.{false≢true}
 use Rattle.std.proofs.lemmas.Bool.Decides.{Decides-int_eq, nat_tests}
 use Rattle.std.proofs.lemmas.List.Concat.{flat_map-append}
 use Rattle.std.proofs.lemmas.List.Folds.{find-append}
-use Rattle.region.specs.declared.points.Point.{Point}
-use Rattle.region.proofs.Truth.{and_left, and_right, and_true}
+use Rattle.plane_edges.specs.declared.points.Point.{Point}
+use Rattle.plane_edges.proofs.Truth.{and_left, and_right, and_true}
 use Rattle.cell_split.specs.declared.cell.Cell.{Cell}
 use Rattle.cell_split.specs.declared.cell.Task.{Task}
 use Rattle.cell_split.specs.declared.verdict.Leaf.{Leaf}

@@ -7,8 +7,8 @@ use Rattle.std.proofs.lemmas.Bool.{false≢true}
 use Rattle.std.proofs.lemmas.Bool.Decides.{nat_tests}
 use Rattle.std.proofs.lemmas.List.Elements.{All-from_recursion}
 use Rattle.std.proofs.lemmas.List.Folds.{find-append}
-use Rattle.region.specs.Plane.{Place}
-use Rattle.region.proofs.Truth.{and_left, and_right}
+use Rattle.plane_edges.specs.Plane.{Place}
+use Rattle.plane_edges.proofs.Truth.{and_left, and_right}
 use Rattle.cell_split.specs.declared.cell.Task.{Task}
 use Rattle.cell_split.specs.declared.verdict.Entry.{Entry}
 use Rattle.cell_split.specs.declared.verdict.Leaf.{Leaf}

@@ -11,7 +11,7 @@ use Rattle.std.proofs.lemmas.Int.{ints}
 use Rattle.std.proofs.lemmas.List.{get_or_append_left}
 use Rattle.std.proofs.lemmas.List.Folds.{list_all-append}
 use Rattle.std.proofs.lemmas.Slice.Eq.{bytes_eq-Decides}
-use Rattle.region.proofs.Truth.{and_left, and_right, and_true}
+use Rattle.plane_edges.proofs.Truth.{and_left, and_right, and_true}
 use Rattle.covering.specs.Letters.{is_letter}
 use Rattle.covering_check.specs.Marks.{Marks, marks_from}
 use Rattle.covering_check.specs.Numerals.{whole_in}

@@ -1,6 +1,6 @@
 -- What is settled of a tree is shown again by its letters.
 use Rattle.std.specs.Prelude.{◌≡◌, ℕ, ◌<◌, ◌-◌, List, map, Option, Some, None, Ok}
-use Rattle.region.specs.declared.points.Point.{Point}
+use Rattle.plane_edges.specs.declared.points.Point.{Point}
 use Rattle.cell_split.specs.declared.cell.Cell.{Cell}
 use Rattle.cell_split.specs.Judges.{Content, IsLawful}
 use Rattle.covering.specs.declared.settled.Settled.{Settled}

@@ -1,6 +1,6 @@
 -- What an entry that a line shows rests on: verdicts of the judge alone, whoever made the line.
 use Rattle.std.specs.Prelude.{◌≡◌, ℕ, ◌<◌, ◌≤◌, false, List, All, Any, Ok}
-use Rattle.region.specs.Plane.{Place}
+use Rattle.plane_edges.specs.Plane.{Place}
 use Rattle.cell_split.specs.declared.verdict.Entry.{Entry}
 use Rattle.cell_split.specs.declared.verdict.Leaf.{Leaf}
 use Rattle.cell_split.specs.Entries.{entry_of, refuted_word}

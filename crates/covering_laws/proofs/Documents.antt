@@ -8,8 +8,8 @@ use Rattle.std.proofs.lemmas.Int.{ints}
 use Rattle.json.specs.Tree.{HasNumbers}
 use Rattle.json.specs.Tree as tree
 use Rattle.json.proofs.Printed.Decimals.{IsNumber-decimal}
-use Rattle.region.specs.declared.points.Point.{Point}
-use Rattle.region.proofs.Truth.{and_left}
+use Rattle.plane_edges.specs.declared.points.Point.{Point}
+use Rattle.plane_edges.proofs.Truth.{and_left}
 use Rattle.cell_split.specs.declared.cell.Cell.{Cell}
 use Rattle.cell_split.specs.Judges.{Content, IsLawful}
 use Rattle.cell_split.specs.Tree.{root_task}

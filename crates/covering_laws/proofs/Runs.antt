@@ -9,7 +9,7 @@ use Rattle.std.proofs.lemmas.Bool.Decides.{nat_tests}
 use Rattle.std.proofs.lemmas.Fmt.{decimal_digit, decimal_step}
 use Rattle.std.proofs.lemmas.List.{length-append}
 use Rattle.std.proofs.lemmas.Str.{digit_value_digit}
-use Rattle.region.proofs.Truth.{and_true}
+use Rattle.plane_edges.proofs.Truth.{and_true}
 use Rattle.cell_split.proofs.Every.{Every}
 use Rattle.covering.specs.Letters.{is_letter}
 use Rattle.covering.specs.Runs.{run_text, runs_in, with_run}

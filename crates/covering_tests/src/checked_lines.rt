@@ -3,7 +3,7 @@ use crate::settled::settled;
 use cell_split::{Entry, Judge, root_at};
 use covering::{cover_line, cover_line_1};
 use covering_check::{CoverFault, check_line};
-use region::Point;
+use plane_edges::Point;
 use sample_judges::{Late, Sure, Threshold};
 use std::alloc::Global;
 use std::process::Abort;

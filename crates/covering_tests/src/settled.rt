@@ -2,7 +2,7 @@
 use cell_split::{Cell, Entry, Judge, root_at};
 use covering::{Settled, cover_line, cover_line_1, entry_of, settle};
 use plain_search::search_plain;
-use region::Point;
+use plane_edges::Point;
 use sample_judges::{Late, Nobody, Threshold};
 use std::alloc::Global;
 use std::process::Abort;

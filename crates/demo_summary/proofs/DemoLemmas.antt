@@ -18,9 +18,9 @@ use Rattle.order_text.proofs.LineLaws.{line_readings_agree}
 use Rattle.region.specs.Extent.{greatest, is_far, is_wide, least, positions_of}
 use Rattle.region.specs.Faults.{first_fault}
 use Rattle.region.specs.Rings.{Position, Ring, is_closed, last_after}
-use Rattle.region.proofs.Products.{times_mono}
+use Rattle.plane_edges.proofs.Products.{times_mono}
 use Rattle.region.proofs.Reach.{AllIn}
-use Rattle.region.proofs.Truth.{and_true, le_true, lt_false}
+use Rattle.plane_edges.proofs.Truth.{and_true, le_true, lt_false}
 use Rattle.year_table.specs.Zones.{day_offset}
 use Rattle.year_table.specs.declared.zone.Zone.TheVariants.{Fixed}
 use Rattle.demo_summary.specs.Demo.{centre, demo_asked, demo_from, demo_offset, demo_ring, direction, direction_on, distance, position_at, positions_from}

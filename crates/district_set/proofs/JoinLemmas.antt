@@ -7,7 +7,7 @@ use Rattle.std.proofs.lemmas.List.Elements.{recursion_from_All}
 use Rattle.std.proofs.lemmas.List.Folds.{list_any-append}
 use Rattle.solar_terms.specs.SunLaws.{SunSource}
 use Rattle.method_table.specs.Row.{Row}
-use Rattle.region.specs.Plane.{Place}
+use Rattle.plane_edges.specs.Plane.{Place}
 use Rattle.region.specs.Rings.{Polygon, is_in_district, is_in_polygon}
 use Rattle.cell_split.specs.declared.cell.Cell.{Cell}
 use Rattle.cell_split.specs.declared.verdict.Entry.{Entry}

@@ -1,6 +1,6 @@
 // Places and boxes of a district, asked of its whole border or of one strip.
 ghost use Rattle.std.specs.Prelude.{◌<◌, ◌≤◌, pos, ◌≤ℤ◌, ◌<ℤ◌};
-ghost use Rattle.region.specs.Magnitude.{IsWithin};
+ghost use Rattle.plane_edges.specs.Magnitude.{IsWithin};
 ghost use Rattle.region.specs.Strips.{top_of};
 
 use crate::border::district;

@@ -4,7 +4,7 @@ use Rattle.std.specs.Int.{int_div_euclid}
 use Rattle.std.proofs.lemmas.Int.{ints}
 use borrow.Author.Differences.{up, down}
 use Rattle.fixed_interval.proofs.Whole.{div-parts}
-use Rattle.region.proofs.Products.{less_of_times, neg_mul, order_of_times, times_mono}
+use Rattle.plane_edges.proofs.Products.{less_of_times, neg_mul, order_of_times, times_mono}
 use Rattle.night_portion.specs.Bounds.{IsShare, IsWithinTwoNights, ceiling}
 
 -- the number times b reaches n, and one less doesn't

@@ -25,7 +25,7 @@ use Rattle.order_table.specs.declared.day.Night.{Night}
 use Rattle.order_table.specs.declared.ready.Ready.{Ready}
 use Rattle.order_table.proofs.TableLemmas.{count_is}
 use Rattle.order_table.proofs.TextLemmas.{undecided_is}
-use Rattle.region.specs.declared.points.Point.{Point}
+use Rattle.plane_edges.specs.declared.points.Point.{Point}
 use Rattle.region.specs.Rings.{Polygon}
 use Rattle.serde_json.specs.Written.{compact_text}
 use Rattle.year_table.specs.Dates.{date_text}

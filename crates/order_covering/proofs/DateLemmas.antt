@@ -7,7 +7,7 @@ use Rattle.json.proofs.Printed.Utf8.{IsUtf8-are_ascii, are_ascii}
 use Rattle.order_rule.specs.Offsets.{first_day, last_day}
 use Rattle.order_text.proofs.DateTexts.{day_text_plain}
 use Rattle.order_table.specs.declared.day.Day.{Day}
-use Rattle.region.proofs.Truth.{and_left, and_right, and_true, le_true}
+use Rattle.plane_edges.proofs.Truth.{and_left, and_right, and_true, le_true}
 use Rattle.year_table.specs.Dates.{date_text}
 use Rattle.year_table.specs.Rules.{is_rule_byte}
 

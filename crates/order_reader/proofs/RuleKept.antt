@@ -32,7 +32,7 @@ use Rattle.order_rule.specs.Offsets.{first_day, is_day, is_zone, last_day, offse
 use Rattle.order_rule.specs.Rule.{IsOrder}
 use Rattle.region.specs.Faults.{first_fault}
 use Rattle.region.specs.Rings.{Polygon}
-use Rattle.region.proofs.Truth.{map_some}
+use Rattle.plane_edges.proofs.Truth.{map_some}
 use Rattle.region.specs.declared.faults.RegionFault.{RegionFault}
 use Rattle.year_table.specs.Dates.{civil_day}
 use Rattle.year_table.specs.Rules.{is_rule}

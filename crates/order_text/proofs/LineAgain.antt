@@ -26,7 +26,7 @@ use Rattle.order_text.proofs.RuleLemmas.{IsNear, near_district}
 use Rattle.order_text.proofs.SpelledLemmas.{entry_of}
 use Rattle.order_text.specs.Line.{is_plain, version_by}
 use Rattle.order_text.specs.LineReading.{line_district, line_extras_of, line_order_in, line_order_of, version_in}
-use Rattle.region.proofs.Truth.{le_true}
+use Rattle.plane_edges.proofs.Truth.{le_true}
 use Rattle.region.specs.Faults.{first_fault}
 use Rattle.region.specs.Rings.{Polygon}
 use Rattle.sun_choice.specs.declared.choice.SunChoice.{SunChoice}

@@ -26,7 +26,7 @@ use Rattle.order_text.proofs.DateTexts.{day_read, day_text_read}
 use Rattle.order_text.proofs.LineTree.{date_tree, number_tree, range_tree, zone_tree}
 use Rattle.order_text.proofs.NumberLemmas.{whole_decimal, whole_of_decimal}
 use Rattle.order_text.specs.LineReading.{version_in}
-use Rattle.region.proofs.Truth.{le_true}
+use Rattle.plane_edges.proofs.Truth.{le_true}
 use Rattle.sun_choice.specs.Choice.{sun_word}
 use Rattle.sun_choice.specs.declared.choice.SunChoice.{SunChoice}
 use Rattle.sun_choice.specs.declared.choice.SunChoice.TheVariants.{Usno, Meeus}

@@ -13,7 +13,7 @@ use Rattle.jiff_tz.specs.PosixReader.{read_whole}
 use Rattle.region.specs.Extent.{is_far, is_wide, latitudes, longitudes, positions_of}
 use Rattle.region.specs.Faults.{first_fault, lacks_ring, ring_fault}
 use Rattle.region.specs.Rings.{Position, Ring, Polygon}
-use Rattle.region.proofs.Truth.{neither}
+use Rattle.plane_edges.proofs.Truth.{neither}
 use Rattle.region.specs.declared.faults.RegionFault.{RegionFault}
 use Rattle.region.specs.declared.faults.RegionFault.TheVariants.{TooFar, TooMany, TooWide, NoPolygon}
 use Rattle.year_table.specs.Rules.{is_plain, is_rule, is_rule_byte}

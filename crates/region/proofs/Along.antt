@@ -5,15 +5,15 @@ use Rattle.std.proofs.Math.IntN.{ℤ, pos, ◌-ℤ◌, ◌*ℤ◌}
 use Rattle.std.specs.Prelude.{◌≤ℤ◌, unsigned_abs, nat_lt, nat_le}
 use Rattle.std.proofs.lemmas.Int.{ints}
 use Rattle.std.proofs.lemmas.Bool.Decides.{nat_tests}
-use Rattle.region.specs.Magnitude.{IsWithin}
+use Rattle.plane_edges.specs.Magnitude.{IsWithin}
 use Rattle.std.specs.List.{list_any}
 use Rattle.std.specs.Option.{option_or}
 use Rattle.std.proofs.lemmas.List.Folds.{list_any-append}
-use Rattle.region.specs.Plane.{Place, Segment, Box, is_on, crosses}
-use Rattle.region.specs.Rings.{Position, Ring, Polygon, edges_from, ring_edges, polygon_edges, xor}
+use Rattle.plane_edges.specs.Plane.{Place, Segment, Box, is_on, crosses, xor}
+use Rattle.region.specs.Rings.{Position, Ring, Polygon, edges_from, ring_edges, polygon_edges}
 use Rattle.region.specs.Extent.{is_far, is_step, is_compact_from}
-use Rattle.region.specs.Named.{first_point}
-use Rattle.region.proofs.Truth.{or_assoc, and_left, and_right, not_false, neither}
+use Rattle.plane_edges.specs.EdgePoints.{first_point}
+use Rattle.plane_edges.proofs.Truth.{or_assoc, and_left, and_right, not_false, neither}
 use Rattle.region.proofs.Odd.{odd_by, odd_by-append, xor_assoc}
 use Rattle.region.proofs.Wholly.{first_point-append}
 

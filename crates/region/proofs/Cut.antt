@@ -7,17 +7,18 @@ use Rattle.std.specs.List.{list_any, filter, flat_map}
 use Rattle.std.proofs.lemmas.Int.{ints}
 use Rattle.std.proofs.lemmas.Bool.Decides.{nat_tests}
 use Rattle.std.proofs.lemmas.List.{map-append}
-use Rattle.region.specs.Plane.{Place, Segment, Box, orientation, is_on, is_above, crosses}
-use Rattle.region.specs.Rings.{Polygon, polygon_edges, is_within, is_in_district, xor}
-use Rattle.region.specs.Named.{edge_point, first_point, corner, named}
-use Rattle.region.specs.Laws.{IsOrdered, misses_latitudes}
-use Rattle.region.specs.Views.{segment_of}
+use Rattle.plane_edges.specs.Plane.{Place, Segment, Box, orientation, is_on, is_above, crosses, xor, IsOrdered}
+use Rattle.region.specs.Rings.{Polygon, polygon_edges, is_within, is_in_district}
+use Rattle.plane_edges.specs.EdgePoints.{edge_point, first_point, corner, misses_latitudes}
+use Rattle.region.specs.Named.{named}
+use Rattle.plane_edges.specs.Views.{segment_of}
 use Rattle.region.specs.Strips.{BandView, IsBandOf, numbered, numbered_edges, reaches, edges_between, NamesWithoutBeyond, is_in_some}
-use Rattle.region.proofs.Truth.{or_assoc, not_true, and_true, and_left, and_right, or_left, or_right, or_cases, is_lt, lt_true, lt_false}
+use Rattle.plane_edges.proofs.Truth.{or_assoc, not_true, and_true, and_left, and_right, or_left, or_right, or_cases, is_lt, lt_true, lt_false}
 use Rattle.region.proofs.Odd.{odd_by, xor_assoc, xor_false, is_odd-count_by}
-use Rattle.region.proofs.Wholly.{off_apart, corner_ordered}
-use Rattle.region.proofs.Beyond.{beyond_latitudes, none_apart}
-use Rattle.region.proofs.Touching.{no_cross_level}
+use Rattle.plane_edges.proofs.OffEdge.{off_apart}
+use Rattle.plane_edges.proofs.Parity.{corner_ordered}
+use Rattle.plane_edges.proofs.Beyond.{beyond_latitudes, none_apart}
+use Rattle.plane_edges.proofs.Touching.{no_cross_level}
 
 -- ---- an edge beyond the box's latitudes
 

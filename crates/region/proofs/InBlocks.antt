@@ -9,18 +9,20 @@ use Rattle.std.proofs.lemmas.Bool.Decides.{nat_tests}
 use Rattle.std.proofs.lemmas.List.{map-append, take-append-drop, length-take-le}
 use Rattle.std.proofs.lemmas.List.Elements.{All-cons, All-head, All-tail, All-weaker}
 use Rattle.region.specs.declared.blocks.Block.{Block}
-use Rattle.region.specs.declared.edges.Edge.{Edge}
-use Rattle.region.specs.Plane.{Place, Segment, Box, is_on, crosses}
-use Rattle.region.specs.Rings.{Polygon, xor}
-use Rattle.region.specs.Named.{edge_point, first_point, corner, named}
-use Rattle.region.specs.Laws.{IsOrdered, misses_latitudes, misses_longitudes}
+use Rattle.plane_edges.specs.declared.edges.Edge.{Edge}
+use Rattle.plane_edges.specs.Plane.{Place, Segment, Box, is_on, crosses, xor, IsOrdered}
+use Rattle.region.specs.Rings.{Polygon}
+use Rattle.plane_edges.specs.EdgePoints.{edge_point, first_point, corner, misses_latitudes, misses_longitudes}
+use Rattle.region.specs.Named.{named}
 use Rattle.region.specs.Strips.{BandView, IsBandOf, numbered, is_in_some, edges_between}
-use Rattle.region.specs.Views.{segment_of}
+use Rattle.plane_edges.specs.Views.{segment_of}
 use Rattle.region.specs.Blocks.{IsHeld, AreBlocksOf, cut, first_in_blocks, is_in_some_block}
-use Rattle.region.proofs.Truth.{or_assoc, and_true, or_left, or_right, or_cases, is_lt, lt_true}
+use Rattle.plane_edges.proofs.Truth.{or_assoc, and_true, or_left, or_right, or_cases, is_lt, lt_true}
 use Rattle.region.proofs.Odd.{odd_by, is_odd-count_by}
-use Rattle.region.proofs.Wholly.{off_apart, corner_ordered, first_point-append}
-use Rattle.region.proofs.Beyond.{beyond_latitudes, names_none_beyond}
+use Rattle.plane_edges.proofs.OffEdge.{off_apart}
+use Rattle.plane_edges.proofs.Parity.{corner_ordered}
+use Rattle.region.proofs.Wholly.{first_point-append}
+use Rattle.plane_edges.proofs.Beyond.{beyond_latitudes, names_none_beyond}
 use Rattle.region.proofs.Cut.{crosses_none, scan_group, band_first, band_named}
 
 -- a block whose box is at least as wide

@@ -7,16 +7,17 @@ use Rattle.std.specs.List.{list_any, list_all, flat_map, AllByRecursion as Every
 use Rattle.std.proofs.lemmas.Int.{ints, by_lt_z}
 use Rattle.std.proofs.lemmas.Bool.{false≢true}
 use Rattle.std.proofs.lemmas.List.Folds.{list_any-append}
-use Rattle.region.specs.Plane.{Place, Segment, Box, IsIn, is_on, is_above, crosses}
-use Rattle.region.specs.Rings.{xor, Position, Ring, Polygon, edge_between, edges_from, ring_edges, polygon_edges, last_after, is_closed, is_in_district}
+use Rattle.plane_edges.specs.Plane.{Place, Segment, Box, IsIn, is_on, is_above, crosses, xor}
+use Rattle.region.specs.Rings.{Position, Ring, Polygon, edge_between, edges_from, ring_edges, polygon_edges, last_after, is_closed, is_in_district}
 use Rattle.region.specs.Extent.{longitudes, latitudes, least, greatest, positions_of}
 use Rattle.region.specs.Laws.{are_closed}
-use Rattle.region.proofs.Products.{times_mono}
-use Rattle.region.proofs.Truth.{same, by_same, by_table, and_left, and_right, lt_true, lt_false}
-use Rattle.region.proofs.Odd.{odd_by, odd_by-append, is_odd-count_by}
-use Rattle.region.proofs.Parity.{no_cross_west, cross_east}
+use Rattle.plane_edges.proofs.Products.{times_mono}
+use Rattle.plane_edges.proofs.Truth.{and_left, and_right, lt_true, lt_false, and_false, false_and}
+use Rattle.region.proofs.Odd.{odd_by, odd_by-append, is_odd-count_by, xor_self, middle_out}
+use Rattle.region.proofs.Wholly.{equal_of_test}
+use Rattle.plane_edges.proofs.Parity.{no_cross_west, cross_east}
 use Rattle.region.proofs.Reach.{AllIn, all_in}
-use Rattle.region.proofs.Wholly.{above_both, below_both, and_false, false_and}
+use Rattle.plane_edges.proofs.OffEdge.{above_both, below_both}
 
 -- a position within these ends, in place units
 record IsWithin (w e s n : ℤ) (q : Position) : Type 0 where
@@ -99,19 +100,9 @@ misses {w} {e} {s} {n} p (north h) q r positive i j =
 
 -- ---- rings, polygons, districts
 
-middle_out : (a b c : Bool) → xor (xor a b) (xor b c) ≡ xor a c
-middle_out a b c = by_same _ _ (by_table (λ x y z w. same (xor (xor x y) (xor y z)) (xor x z)) refl a b c true)
-
-xor_self : (a : Bool) → xor a a ≡ false
-xor_self true = refl
-xor_self false = refl
-
 both_false : (a b : Bool) → a ≡ false → b ≡ false → (a || b) ≡ false
 both_false true b h k = h
 both_false false b h k = k
-
-equal_of_test : (u v : ℤ) → int_eq u v ≡ true → u ≡ v
-equal_of_test u v h = grind (arith, ints)
 
 record MissesAll (p : Place) (edges : List Segment) (parity : Bool) : Type 0 where
   off : list_any (is_on p) edges ≡ false

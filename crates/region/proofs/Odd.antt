@@ -2,8 +2,9 @@
 use Rattle.std.proofs.Common.{◌≡◌, ℕ, ◌+◌, ◌%◌, ◌⊎◌, inl, inr, Bool, true, false, cond, List, [], ◌∷◌, ◌++◌, arith, refl, sym, ap, ◌∙◌}
 use Rattle.std.specs.Prelude.{◌==◌, count_by, fold}
 use Rattle.std.proofs.lemmas.Bool.Decides.{nat_tests}
-use Rattle.region.specs.Rings.{xor, is_odd}
-use Rattle.region.proofs.Truth.{same, by_same, by_table}
+use Rattle.plane_edges.specs.Plane.{xor}
+use Rattle.region.specs.Rings.{is_odd}
+use Rattle.plane_edges.proofs.Truth.{same, by_same, by_table}
 
 -- an odd number of elements pass the test
 abbrev pub odd_by : {X : Type 0} → (X → Bool) → List X → Bool
@@ -16,6 +17,13 @@ xor_assoc a b c = by_same _ _ (by_table (λ x y z w. same (xor (xor x y) z) (xor
 pub xor_false : (a : Bool) → xor a false ≡ a
 xor_false true = refl
 xor_false false = refl
+
+pub xor_self : (a : Bool) → xor a a ≡ false
+xor_self true = refl
+xor_self false = refl
+
+pub middle_out : (a b c : Bool) → xor (xor a b) (xor b c) ≡ xor a c
+middle_out a b c = by_same _ _ (by_table (λ x y z w. same (xor (xor x y) (xor y z)) (xor x z)) refl a b c true)
 
 halves : (n : ℕ) → (n % 2 ≡ 0) ⊎ (n % 2 ≡ 1)
 halves n = elim (n % 2 == 0) as (λ b. n % 2 == 0 ≡ b → (n % 2 ≡ 0) ⊎ (n % 2 ≡ 1)) [

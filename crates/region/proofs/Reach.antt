@@ -12,7 +12,7 @@ use Rattle.region.specs.declared.bounds.Bounds.{Bounds}
 use Rattle.region.specs.Rings.{Position, Ring, Polygon}
 use Rattle.region.specs.Extent.{is_far, is_compact, is_compact_from, positions_of, longitudes, latitudes, least, greatest, is_wide}
 use Rattle.region.specs.Bounds.{widened, or_zero}
-use Rattle.region.proofs.Truth.{and_true, is_ge, neither}
+use Rattle.plane_edges.proofs.Truth.{and_true, is_ge, neither}
 use Rattle.region.proofs.Sound.{IsSound}
 
 fold_widened : (b : Bounds) (ps : List Position) → fold widened (Some b) ps ≡ Some (record {

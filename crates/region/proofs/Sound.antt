@@ -10,7 +10,7 @@ use Rattle.region.specs.Rings.{Ring, Polygon, is_closed}
 use Rattle.region.specs.Extent.{is_far, positions_of, longitudes, latitudes, is_wide}
 use Rattle.region.specs.Faults.{is_empty, ring_fault, lacks_ring, first_fault}
 use Rattle.region.specs.Laws.{are_closed}
-use Rattle.region.proofs.Truth.{and_true, and_left, and_right, neither}
+use Rattle.plane_edges.proofs.Truth.{and_true, and_left, and_right, neither}
 use Rattle.region.proofs.Counting.{ring_fault-append}
 
 pub else_none : {A : Type 0} (b : Bool) (x : A) (o : Option A) → cond b (Some x) o ≡ None → (b ≡ false) × (o ≡ None)

@@ -1,75 +1,28 @@
 -- A box that no edge meets is wholly inside a polygon or wholly outside it, and so the named place of
 -- a box is exact.
-use Rattle.std.proofs.Common.{◌≡◌, ◌⊎◌, inl, inr, Bool, true, false, ◌&&◌, ◌||◌, cond, List, [], ◌∷◌, ◌++◌, Option, Some, None, arith, refl, sym, ap, ◌∙◌}
+use Rattle.std.proofs.Common.{◌≡◌, inl, inr, Bool, true, false, ◌||◌, cond, List, [], ◌∷◌, ◌++◌, Option, Some, None, arith, refl, sym, ap, ◌∙◌}
 use Rattle.std.proofs.Math.IntN.{ℤ, pos, ◌*ℤ◌}
-use Rattle.std.specs.Prelude.{◌<ℤ◌, MatchOption, count_by}
+use Rattle.std.specs.Prelude.{MatchOption, count_by}
 use Rattle.std.specs.Ordering.{int_eq}
 use Rattle.std.specs.Option.{option_or}
 use Rattle.std.specs.List.{list_any, list_all, flat_map}
 use Rattle.std.proofs.lemmas.Int.{ints}
 use Rattle.std.proofs.lemmas.List.Folds.{list_any-append}
-use Rattle.region.specs.Plane.{Place, Segment, Box, IsIn, encloses, is_on, crosses}
-use Rattle.region.specs.Rings.{xor, Position, Ring, Polygon, edge_between, edges_from, ring_edges, polygon_edges, last_after, is_closed, is_odd, is_in_polygon, is_in_district}
-use Rattle.region.specs.Named.{edge_point, first_point, corner}
-use Rattle.region.specs.Laws.{IsOrdered, are_closed, IsWhollyInOrOut, NamesExactly}
-use Rattle.region.proofs.Products.{times_strict}
-use Rattle.region.proofs.Truth.{same, by_same, by_table, and_left, and_right, or_left, or_right, or_cases, or_some, or_none_left, or_none_right}
-use Rattle.region.proofs.Odd.{odd_by, odd_by-append, is_odd-count_by}
-use Rattle.region.proofs.Apart.{Apart, beyond_west, beyond_east, beyond_south, beyond_north, box_left, box_right, apart}
-use Rattle.region.proofs.Parity.{passed, alike, corner_in}
-use Rattle.region.proofs.OnEdge.{edge_met}
-
--- ---- no place of the box lies on an edge that is apart from it
-
-pub below_both : (u v z : ℤ) → u <ℤ z → v <ℤ z → encloses u v z ≡ false
-below_both u v z h k = grind (arith, ints)
-
-pub above_both : (u v z : ℤ) → z <ℤ u → z <ℤ v → encloses u v z ≡ false
-above_both u v z h k = grind (arith, ints)
-
-not_zero : (z : ℤ) → (pos 0 <ℤ z) ⊎ (z <ℤ pos 0) → int_eq z (pos 0) ≡ false
-not_zero z (inl h) = grind (arith, ints)
-not_zero z (inr h) = grind (arith, ints)
-
-pub and_false : (a b : Bool) → b ≡ false → (a && b) ≡ false
-and_false true b h = h
-and_false false b h = refl
-
-pub false_and : (a b : Bool) → a ≡ false → (a && b) ≡ false
-false_and true b h = cc
-false_and false b h = refl
-
-pub off_apart : (box : Box) (p : Place) (e : Segment) → IsIn box p → Apart box e → is_on p e ≡ false
-off_apart box p e i (beyond_west h k) =
-    let f = times_strict e.xa box.x0 p.d i.positive h in
-    let g = times_strict e.xb box.x0 p.d i.positive k in
-    false_and _ _ (below_both (e.xa *ℤ p.d) (e.xb *ℤ p.d) p.a (omega (arith, ints, i.west)) (omega (arith, ints, i.west)))
-off_apart box p e i (beyond_east h k) =
-    let f = times_strict box.x1 e.xa p.d i.positive h in
-    let g = times_strict box.x1 e.xb p.d i.positive k in
-    false_and _ _ (above_both (e.xa *ℤ p.d) (e.xb *ℤ p.d) p.a (omega (arith, ints, i.east)) (omega (arith, ints, i.east)))
-off_apart box p e i (beyond_south h k) =
-    let f = times_strict e.ya box.y0 p.d i.positive h in
-    let g = times_strict e.yb box.y0 p.d i.positive k in
-    and_false _ _ (false_and _ _ (below_both (e.ya *ℤ p.d) (e.yb *ℤ p.d) p.b (omega (arith, ints, i.south)) (omega (arith, ints, i.south))))
-off_apart box p e i (beyond_north h k) =
-    let f = times_strict box.y1 e.ya p.d i.positive h in
-    let g = times_strict box.y1 e.yb p.d i.positive k in
-    and_false _ _ (false_and _ _ (above_both (e.ya *ℤ p.d) (e.yb *ℤ p.d) p.b (omega (arith, ints, i.north)) (omega (arith, ints, i.north))))
-off_apart box p e i (box_left f) = and_false _ _ (and_false _ _ (not_zero _ (inl (f p i))))
-off_apart box p e i (box_right f) = and_false _ _ (and_false _ _ (not_zero _ (inr (f p i))))
+use Rattle.plane_edges.specs.Plane.{Place, Segment, Box, IsIn, is_on, crosses, xor, IsOrdered}
+use Rattle.region.specs.Rings.{Position, Ring, Polygon, edge_between, edges_from, ring_edges, polygon_edges, last_after, is_closed, is_odd, is_in_polygon, is_in_district}
+use Rattle.plane_edges.specs.EdgePoints.{edge_point, first_point, corner}
+use Rattle.region.specs.Laws.{are_closed, IsWhollyInOrOut, NamesExactly}
+use Rattle.plane_edges.proofs.Truth.{same, by_same, by_table, and_left, and_right, or_left, or_right, or_cases, or_some, or_none_left, or_none_right}
+use Rattle.region.proofs.Odd.{odd_by, odd_by-append, is_odd-count_by, xor_self, middle_out}
+use Rattle.plane_edges.proofs.Apart.{apart}
+use Rattle.plane_edges.proofs.Parity.{passed, alike, corner_in, corner_ordered}
+use Rattle.plane_edges.proofs.OffEdge.{off_apart}
+use Rattle.plane_edges.proofs.OnEdge.{edge_met}
 
 -- ---- a ring
 
 swapped : (a b c d : Bool) → xor (xor a b) (xor c d) ≡ xor (xor a c) (xor b d)
 swapped a b c d = by_same _ _ (by_table (λ x y z w. same (xor (xor x y) (xor z w)) (xor (xor x z) (xor y w))) refl a b c d)
-
-middle_out : (a b c : Bool) → xor (xor a b) (xor b c) ≡ xor a c
-middle_out a b c = by_same _ _ (by_table (λ x y z w. same (xor (xor x y) (xor y z)) (xor x z)) refl a b c true)
-
-xor_self : (a : Bool) → xor a a ≡ false
-xor_self true = refl
-xor_self false = refl
 
 same_of_xor : (a b : Bool) → xor a b ≡ false → a ≡ b
 same_of_xor true true h = refl
@@ -96,7 +49,7 @@ ends_alike box p q (r ∷ rest) i none =
     joined (crosses p e) (crosses (corner box) e) (odd_by (crosses p) (edges_from r rest)) (odd_by (crosses (corner box)) (edges_from r rest))
     (passed_at box p q) (passed_at box p r) (passed_at box p (last_after r rest)) here there
 
-equal_of_test : (u v : ℤ) → int_eq u v ≡ true → u ≡ v
+pub equal_of_test : (u v : ℤ) → int_eq u v ≡ true → u ≡ v
 equal_of_test u v h = grind (arith, ints)
 
 ring_alike : (box : Box) (p : Place) (ring : Ring) → IsIn box p → is_closed ring ≡ true
@@ -226,15 +179,6 @@ pub first_in : (box : Box) (p : Place) (polygons : List Polygon) → IsOrdered b
 first_in box p polygons ordered h =
     let m = first_met box p (flat_map polygon_edges polygons) ordered (sym h) in
     (m.0, on_border p polygons m.1)
-
-pub corner_ordered : (box : Box) → IsOrdered box → IsIn box (corner box)
-corner_ordered box o = record {
-  positive = omega (arith, ints);
-  west = omega (arith, ints);
-  east = omega (arith, ints, o.x_ordered);
-  south = omega (arith, ints);
-  north = omega (arith, ints, o.y_ordered);
-}
 
 pub names_exactly : NamesExactly
 names_exactly box polygons ordered closed =

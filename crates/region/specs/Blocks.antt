@@ -3,11 +3,11 @@ use Rattle.std.specs.Prelude.{◌≡◌, ℕ, ◌<◌, ◌≤◌, ◌≤ℤ◌, 
 use Rattle.std.specs.Option.{option_or}
 use Rattle.std.specs.List.{All, list_any}
 use Rattle.region.specs.declared.blocks.Block.{Block}
-use Rattle.region.specs.declared.edges.Edge.{Edge}
-use Rattle.region.specs.Plane.{Place, Segment, Box, is_on, crosses}
-use Rattle.region.specs.Rings.{is_odd, xor}
-use Rattle.region.specs.Named.{first_point}
-use Rattle.region.specs.Views.{segment_of}
+use Rattle.plane_edges.specs.declared.edges.Edge.{Edge}
+use Rattle.plane_edges.specs.Plane.{Place, Segment, Box, is_on, crosses, xor}
+use Rattle.region.specs.Rings.{is_odd}
+use Rattle.plane_edges.specs.EdgePoints.{first_point}
+use Rattle.plane_edges.specs.Views.{segment_of}
 
 -- the edge is of the block's polygon, and both its ends lie in the block's box
 pub record IsHeld (block : Block) (e : Edge) : Type 0 where

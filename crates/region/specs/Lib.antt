@@ -1,10 +1,7 @@
-pub mod Magnitude
-pub mod Plane
 pub mod Rings
 pub mod Extent
 pub mod Named
 pub mod Laws
-pub mod Views
 pub mod Faults
 pub mod Vectors
 pub mod Bounds

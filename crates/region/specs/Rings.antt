@@ -1,9 +1,9 @@
 -- Polygons as lists of rings, rings as lists of positions (longitude, latitude) in microdegrees,
 -- and when a place is in them.
-use Rattle.std.specs.Prelude.{ℤ, pos, ℕ, ◌*ℤ◌, ◌%◌, ◌==◌, Bool, true, not, ◌&&◌, ◌||◌, if◌then◌else◌, List, [], ◌∷◌, count_by}
+use Rattle.std.specs.Prelude.{ℤ, pos, ℕ, ◌*ℤ◌, ◌%◌, ◌==◌, Bool, true, ◌&&◌, ◌||◌, List, [], ◌∷◌, count_by}
 use Rattle.std.specs.Ordering.{int_eq}
 use Rattle.std.specs.List.{list_any, flat_map}
-use Rattle.region.specs.Plane.{Place, Segment, is_on, crosses}
+use Rattle.plane_edges.specs.Plane.{Place, Segment, is_on, crosses}
 
 -- a position; a ring; a polygon, its outer ring and its holes
 abbrev pub Position : Type 0
@@ -49,10 +49,6 @@ polygon_edges rings = flat_map ring_edges rings
 -- an odd count
 abbrev pub is_odd : ℕ → Bool
 is_odd n = (n % 2) == 1
-
--- exactly one of two tests holds
-abbrev pub xor : Bool → Bool → Bool
-xor a b = if a then not b else b
 
 -- on one of the edges, or a ray to the east crosses an odd number of them
 abbrev pub is_within : Place → List Segment → Bool

@@ -2,12 +2,12 @@
 use Rattle.std.specs.Prelude.{◌≡◌, ℤ, pos, ℕ, ◌+◌, ◌*◌, ◌^◌, ◌<◌, ◌+ℤ◌, int_lt, Bool, not, ◌&&◌, ◌||◌, if◌then◌else◌, ◌==◌, List, [], ◌∷◌, ◌++◌, length, map, Some, None, Option, IsFalse, IsTrue, slice_index_or}
 use Rattle.std.specs.Option.{option_or}
 use Rattle.std.specs.List.{filter, flat_map, list_any}
-use Rattle.region.specs.declared.edges.Edge.{Edge}
-use Rattle.region.specs.Plane.{Place, Segment, Box, is_on, crosses}
-use Rattle.region.specs.Rings.{Polygon, polygon_edges, is_within, xor}
-use Rattle.region.specs.Named.{first_point, corner, named}
-use Rattle.region.specs.Laws.{IsOrdered, misses_latitudes}
-use Rattle.region.specs.Views.{segment_of}
+use Rattle.plane_edges.specs.declared.edges.Edge.{Edge}
+use Rattle.plane_edges.specs.Plane.{Place, Segment, Box, is_on, crosses, xor, IsOrdered}
+use Rattle.region.specs.Rings.{Polygon, polygon_edges, is_within}
+use Rattle.plane_edges.specs.EdgePoints.{first_point, corner, misses_latitudes}
+use Rattle.region.specs.Named.{named}
+use Rattle.plane_edges.specs.Views.{segment_of}
 
 -- all edges in the order of polygons, rings and positions, the polygons counted from n
 abbrev pub numbered_edges : ℕ → List Polygon → List (ℕ × Segment)

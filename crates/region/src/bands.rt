@@ -4,15 +4,12 @@ ghost use Rattle.std.specs.Option.{option_map};
 ghost use Rattle.region.specs.Blocks.{AreBlocksOf};
 ghost use Rattle.region.specs.Named.{named};
 ghost use Rattle.region.specs.Strips.{BandView, IsBandOf};
-ghost use Rattle.region.specs.Views.{place_of, box_of};
+ghost use Rattle.plane_edges.specs.Views.{place_of, box_of};
 
 use crate::blocks::{Block, blocks_of};
-use crate::edge_points::corner;
-use crate::edges::Edge;
-use crate::points::Point;
 use crate::polygons::{Polygon, edges_between};
-use crate::rects::Rect;
 use crate::scans::{any_around, first_in};
+use plane_edges::{Edge, Point, Rect, corner};
 use std::alloc::{AllocError, Global};
 use std::marker::Model;
 

@@ -2,10 +2,9 @@
 ghost use Rattle.std.specs.Prelude.{◌≡◌, ◌<◌, ◌≤◌, ◌≤ℤ◌, ◌+◌, ◌∷◌, take, length, int_lt, ◌||◌, IfOk};
 ghost use Rattle.std.specs.List.{All};
 ghost use Rattle.region.specs.Blocks.{IsHeld, AreBlocksOf};
-ghost use Rattle.region.specs.declared.edges.Edge.{Edge};
+ghost use Rattle.plane_edges.specs.declared.edges.Edge.{Edge};
 
-use crate::edges::Edge;
-use crate::rects::Rect;
+use plane_edges::{Edge, Rect};
 use std::alloc::{AllocError, Global};
 
 /// A block has at most so many edges.

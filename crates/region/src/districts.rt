@@ -2,27 +2,25 @@
 ghost use Rattle.std.specs.Prelude.{◌≡◌, ℤ, List, length, slice_get, slice_index_or, [], ◌<◌, IsTrue, IsFalse, IfSome, IfNone, IfOk, IfErr, OnOk, ◌⊎◌, pos, Some, None};
 ghost use Rattle.std.specs.List.{list_all};
 ghost use Rattle.std.specs.Option.{option_map};
-ghost use Rattle.region.specs.Magnitude.{IsWithin};
+ghost use Rattle.plane_edges.specs.Magnitude.{IsWithin};
 ghost use Rattle.region.specs.Strips.{AreStripsOf, IsBandOf};
-ghost use Rattle.region.specs.Plane.{Place, IsIn};
+ghost use Rattle.plane_edges.specs.Plane.{Place, IsIn};
 ghost use Rattle.region.specs.Rings.{is_in_district};
 ghost use Rattle.region.specs.Named.{named};
 ghost use Rattle.region.specs.Extent.{longitudes, latitudes, positions_of, least, greatest, is_compact};
 ghost use Rattle.region.specs.Faults.{first_fault, IsSurveyed};
 ghost use Rattle.region.specs.Vectors.{rings_in, polygons_in};
-ghost use Rattle.region.specs.Views.{place_of, box_of};
+ghost use Rattle.plane_edges.specs.Views.{place_of, box_of};
 
 use crate::bands::{Band, band_of};
 use crate::counts::RingList;
-use crate::edge_points::corner;
 use crate::faults::RegionFault;
-use crate::points::Point;
 use crate::polygons::{Polygon, any_contains, first_point};
-use crate::rects::Rect;
 use crate::rings::Ring;
 use crate::strips::{Strips, strips_of};
 use crate::surveys::survey_of;
 use no_memory::NoMemory;
+use plane_edges::{Point, Rect, corner};
 use std::alloc::{AllocError, Global};
 use std::marker::Model;
 

@@ -1,10 +1,9 @@
 // The edges that are kept of those near some latitudes.
 ghost use Rattle.std.specs.Prelude.{◌≡◌, [], ◌∷◌, ◌++◌, map, OnOk, not, ◌||◌};
 ghost use Rattle.region.specs.Strips.{reaches, numbered, kept};
-ghost use Rattle.region.specs.Views.{segment_of};
+ghost use Rattle.plane_edges.specs.Views.{segment_of};
 
-use crate::edge_points::{are_above, are_below};
-use crate::edges::Edge;
+use plane_edges::{Edge, are_above, are_below};
 use std::alloc::AllocError;
 
 fn neither(a: bool, b: bool) -> bool

@@ -1,4 +1,5 @@
-ghost use Rattle.region.specs.Laws.{IsWhollyInOrOut, NamesExactly, NamesNoneBeyond};
+// Laws on places, boxes and districts.
+ghost use Rattle.region.specs.Laws.{IsWhollyInOrOut, NamesExactly};
 ghost use Rattle.region.specs.Strips.{NamesWithoutBeyond};
 
 /// A box that no edge of a polygon meets lies wholly inside the polygon or wholly outside it.
@@ -10,11 +11,6 @@ pub fn wholly_in_or_out()
 /// no place of the box is in the district.
 pub fn names_exactly()
     ensures { NamesExactly }
-{}
-
-/// An edge whose own closed box misses a box names no point for it and holds no place of it.
-pub fn names_none_beyond()
-    ensures { NamesNoneBeyond }
 {}
 
 /// An edge whose latitudes don't meet the box's changes neither the named place nor its absence.

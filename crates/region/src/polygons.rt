@@ -3,16 +3,13 @@ ghost use Rattle.std.specs.Prelude.{◌≡◌, ℤ, List, length, slice_get, cou
 ghost use Rattle.region.specs.Strips.{edges_between, numbered, kept};
 ghost use Rattle.std.specs.List.{list_any, flat_map};
 ghost use Rattle.std.specs.Option.{option_map};
-ghost use Rattle.region.specs.Plane.{is_on, crosses};
+ghost use Rattle.plane_edges.specs.Plane.{is_on, crosses};
 ghost use Rattle.region.specs.Rings.{polygon_edges, is_odd, is_in_polygon, is_in_district};
-ghost use Rattle.region.specs.Named.{first_point};
-ghost use Rattle.region.specs.Views.{place_of, box_of};
+ghost use Rattle.plane_edges.specs.EdgePoints.{first_point};
+ghost use Rattle.plane_edges.specs.Views.{place_of, box_of};
 
-use crate::edges::Edge;
-use crate::points::Point;
-use crate::rects::Rect;
 use crate::rings::Ring;
-use crate::touches::Touch;
+use plane_edges::{Edge, Point, Rect, Touch};
 use std::alloc::{AllocError, Global};
 use std::marker::Model;
 

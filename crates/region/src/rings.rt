@@ -3,18 +3,14 @@ ghost use Rattle.std.specs.Prelude.{◌≡◌, ℤ, List, length, slice_get, IsT
 ghost use Rattle.region.specs.Strips.{numbered, kept};
 ghost use Rattle.std.specs.List.{list_any};
 ghost use Rattle.std.specs.Option.{option_map};
-ghost use Rattle.region.specs.Plane.{is_on, crosses};
+ghost use Rattle.plane_edges.specs.Plane.{is_on, crosses};
 ghost use Rattle.region.specs.Rings.{edge_between, edges_from, ring_edges, is_odd};
-ghost use Rattle.region.specs.Named.{first_point};
+ghost use Rattle.plane_edges.specs.EdgePoints.{first_point};
 ghost use Rattle.region.specs.Extent.{is_far, is_step, is_compact, is_compact_from};
-ghost use Rattle.region.specs.Views.{place_of, box_of, segment_of};
+ghost use Rattle.plane_edges.specs.Views.{place_of, box_of, segment_of};
 
-use crate::edge_points::edge_point;
-use crate::edges::Edge;
 use crate::keeps::keep_edge;
-use crate::points::Point;
-use crate::rects::Rect;
-use crate::touches::{Touch, edge_touch};
+use plane_edges::{Edge, Point, Rect, Touch, edge_point, edge_touch};
 use std::alloc::AllocError;
 use std::marker::Model;
 

@@ -2,18 +2,14 @@
 ghost use Rattle.std.specs.Prelude.{◌≡◌, ◌&&◌, not, map, false, if◌then◌else◌, count_by};
 ghost use Rattle.std.specs.List.{All, list_any};
 ghost use Rattle.std.specs.Option.{option_map};
-ghost use Rattle.region.specs.Plane.{is_on, crosses};
-ghost use Rattle.region.specs.Rings.{is_odd, xor};
-ghost use Rattle.region.specs.Named.{corner, first_point};
+ghost use Rattle.plane_edges.specs.Plane.{is_on, crosses, xor};
+ghost use Rattle.region.specs.Rings.{is_odd};
+ghost use Rattle.plane_edges.specs.EdgePoints.{corner, first_point};
 ghost use Rattle.region.specs.Blocks.{IsHeld, AreBlocksOf, cut, first_in_blocks, is_in_some_block};
-ghost use Rattle.region.specs.Views.{place_of, box_of, segment_of};
+ghost use Rattle.plane_edges.specs.Views.{place_of, box_of, segment_of};
 
 use crate::blocks::Block;
-use crate::edge_points::{corner, edge_point};
-use crate::edges::Edge;
-use crate::points::Point;
-use crate::rects::Rect;
-use crate::touches::{Touch, edge_touch};
+use plane_edges::{Edge, Point, Rect, Touch, corner, edge_point, edge_touch};
 
 // Where the edges first meet a box.
 fn first_of(edges: &[Edge], r: &Rect) -> Option<Point>

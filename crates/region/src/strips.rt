@@ -1,16 +1,14 @@
 // A district's edges in strips of latitude, so that a small box asks only those near it.
 ghost use Rattle.std.specs.Prelude.{◌≡◌, ℤ, pos, ◌≤ℤ◌, ◌<◌, List, length, slice_get, ◌^◌, ◌+ℤ◌, ◌*◌, IfOk, Some};
-ghost use Rattle.region.specs.Magnitude.{IsWithin};
+ghost use Rattle.plane_edges.specs.Magnitude.{IsWithin};
 ghost use Rattle.std.specs.Option.{option_map};
 ghost use Rattle.region.specs.Named.{named};
 ghost use Rattle.region.specs.Strips.{StripView, IsStripOf, AreStripsOf, top_of};
-ghost use Rattle.region.specs.Views.{place_of, box_of};
+ghost use Rattle.plane_edges.specs.Views.{place_of, box_of};
 
 use crate::bands::{Band, band_of};
-use crate::edges::Edge;
-use crate::points::Point;
 use crate::polygons::Polygon;
-use crate::rects::Rect;
+use plane_edges::{Edge, Point, Rect};
 use std::alloc::{AllocError, Global};
 use std::marker::Model;
 

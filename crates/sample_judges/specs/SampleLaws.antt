@@ -3,7 +3,7 @@ use Rattle.std.proofs.Common.{◌≡◌, ℕ, ◌-◌, ◌*◌, Bool, true, fals
 use Rattle.std.specs.Prelude.{nat_le, nat_lt}
 use Rattle.std.proofs.lemmas.Bool.{false≢true}
 use Rattle.std.proofs.lemmas.Bool.Decides.{nat_tests}
-use Rattle.region.specs.declared.points.Point.{Point}
+use Rattle.plane_edges.specs.declared.points.Point.{Point}
 use Rattle.cell_split.specs.declared.cell.Cell.{Cell}
 use Rattle.cell_split.specs.Verdicts.{is_split, is_open}
 use Rattle.cell_split.specs.Cells.{IsRoot, is_smallest}

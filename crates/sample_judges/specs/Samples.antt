@@ -1,7 +1,7 @@
 -- Judges by which the searches are tried.
 use Rattle.std.specs.Prelude.{◌-◌, ◌*◌, nat_le, nat_lt, ◌&&◌, Bool, true, false, not}
 use Rattle.std.specs.Ordering.{int_eq}
-use Rattle.region.specs.declared.points.Point.{Point}
+use Rattle.plane_edges.specs.declared.points.Point.{Point}
 use Rattle.cell_split.specs.declared.cell.Cell.{Cell}
 use Rattle.cell_split.specs.declared.verdict.Verdict.{Verdict}
 use Rattle.cell_split.specs.declared.verdict.Verdict.TheVariants.{Outside, Proved, Refuted, Split, Open}

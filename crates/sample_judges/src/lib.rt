@@ -8,7 +8,7 @@ ghost use Rattle.cell_split.specs.Cells.{IsRoot, root_at};
 ghost use Rattle.cell_split.specs.declared.verdict.Verdict.TheVariants.{Outside, Proved};
 
 use cell_split::{Cell, Judge, Task, Verdict, root_at};
-use region::Point;
+use plane_edges::Point;
 
 /// Refutes the ranks up to 99, proves those from 101 on, and is open at rank 100 in the root's corner.
 #[derive(Drop)]

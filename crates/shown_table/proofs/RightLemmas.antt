@@ -8,7 +8,7 @@ use Rattle.chosen_sun.proofs.SunLaws.{suns_are_sound}
 use Rattle.method_table.specs.Row.{Row, row_of}
 use Rattle.region.specs.Faults.{first_fault}
 use Rattle.region.specs.Rings.{Polygon}
-use Rattle.region.proofs.Truth.{and_right}
+use Rattle.plane_edges.proofs.Truth.{and_right}
 use Rattle.cell_split.specs.declared.cell.Cell.{Cell}
 use Rattle.cell_split.specs.declared.verdict.Entry.{Entry}
 use Rattle.cell_split.specs.declared.verdict.Entry.TheVariants.{Minute, Never, Open, Whole}

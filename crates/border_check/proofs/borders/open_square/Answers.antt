@@ -1,5 +1,5 @@
 use Rattle.std.proofs.Common.{ap, ◌∙◌}
-use Rattle.region.specs.Plane.{Box}
+use Rattle.plane_edges.specs.Plane.{Box}
 use Rattle.region.specs.Vectors.{polygons_in}
 use Rattle.border_check.specs.declared.squares.Square.{Square}
 use Rattle.border_check.specs.Shares.{ShareView, share_of}

@@ -1,7 +1,7 @@
 use Rattle.std.proofs.Common.{arith, ◌^◌, pos, ◌*ℤ◌, FitsSigned, refl}
 use Rattle.std.specs.Int.{w64, w128}
 use Rattle.std.proofs.lemmas.Int.{ints, to_z-of_z}
-use Rattle.region.proofs.Products.{mul_within}
+use Rattle.plane_edges.proofs.Products.{mul_within}
 use Rattle.border_check.proofs.edge_tests.area.Goals as goal
 
 pub returns-clause-value : goal.returns-clause-value

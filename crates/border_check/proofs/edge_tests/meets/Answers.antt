@@ -1,7 +1,7 @@
 use Rattle.std.proofs.Common.{◌≡◌, true, not, ◌||◌, sym, ap, ◌∙◌}
-use Rattle.region.specs.Laws.{misses_latitudes, misses_longitudes}
+use Rattle.plane_edges.specs.EdgePoints.{misses_latitudes, misses_longitudes}
 use Rattle.border_check.specs.Views.{box_of, segment_of}
-use Rattle.region.proofs.Truth.{or_left, or_right}
+use Rattle.plane_edges.proofs.Truth.{or_left, or_right}
 use Rattle.border_check.specs.Sides.{all_left, all_right}
 use Rattle.border_check.proofs.Corners.{is_beyond, meets_is}
 use Rattle.border_check.proofs.edge_tests.meets.Goals as goal

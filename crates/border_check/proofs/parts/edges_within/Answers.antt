@@ -2,7 +2,7 @@ use Rattle.std.proofs.Common.{◌≡◌, ◌+◌, [], ◌∷◌, drop, map, rule
 use Rattle.std.specs.Int.{w64}
 use Rattle.std.proofs.lemmas.Int.{to_z-of_z}
 use Rattle.std.proofs.lemmas.Grind.{common_steps}
-use Rattle.region.specs.Named.{corner}
+use Rattle.plane_edges.specs.EdgePoints.{corner}
 use Rattle.border_check.specs.Views.{box_of, segment_of}
 use Rattle.region.proofs.Along.{next_left}
 use Rattle.border_check.specs.Shares.{changes, grown, meets, PartView}

@@ -1,5 +1,5 @@
 use Rattle.std.proofs.Common.{◌≡◌, [], drop, map}
-use Rattle.region.specs.Named.{corner}
+use Rattle.plane_edges.specs.EdgePoints.{corner}
 use Rattle.border_check.specs.Views.{box_of, segment_of}
 use Rattle.border_check.specs.Shares.{changes, grown, meets}
 use Rattle.border_check.proofs.parts.edges_within.Given as goal

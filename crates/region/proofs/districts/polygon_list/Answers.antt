@@ -1,7 +1,7 @@
 use Rattle.std.specs.List.{list_all}
 use Rattle.region.specs.Extent.{is_compact}
 use Rattle.region.specs.Vectors.{rings_in, polygons_in}
-use Rattle.region.proofs.Truth.{and_left}
+use Rattle.plane_edges.proofs.Truth.{and_left}
 use Rattle.region.proofs.districts.polygon_list.Goals as goal
 
 pub ring_list-requires : goal.ring_list-requires

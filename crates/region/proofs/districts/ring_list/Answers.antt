@@ -1,7 +1,7 @@
 use Rattle.std.specs.List.{list_all}
 use Rattle.region.specs.Extent.{is_compact}
 use Rattle.region.specs.Vectors.{rings_in}
-use Rattle.region.proofs.Truth.{and_left}
+use Rattle.plane_edges.proofs.Truth.{and_left}
 use Rattle.region.proofs.districts.ring_list.Goals as goal
 
 pub new-requires : goal.new-requires

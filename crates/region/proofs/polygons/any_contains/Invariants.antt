@@ -1,6 +1,6 @@
 use Rattle.std.proofs.Common.{◌≡◌, drop}
 use Rattle.region.specs.Rings.{is_in_district}
-use Rattle.region.specs.Views.{place_of}
+use Rattle.plane_edges.specs.Views.{place_of}
 use Rattle.region.proofs.polygons.any_contains.Given as goal
 
 abbrev pub invariant-loop-polygon : goal.invariant-loop-polygon

@@ -1,8 +1,8 @@
 use Rattle.std.proofs.Common.{List, ◌+◌, drop, ap, sym, ◌∙◌}
 use Rattle.std.specs.List.{flat_map}
 use Rattle.region.specs.Rings.{Polygon, polygon_edges}
-use Rattle.region.specs.Named.{first_point}
-use Rattle.region.specs.Views.{place_of, box_of}
+use Rattle.plane_edges.specs.EdgePoints.{first_point}
+use Rattle.plane_edges.specs.Views.{place_of, box_of}
 use Rattle.region.proofs.Along.{next_left, first_here, first_later}
 use Rattle.region.proofs.polygons.first_point.Goals as goal
 

@@ -1,8 +1,8 @@
 use Rattle.std.proofs.Common.{◌≡◌, drop}
 use Rattle.std.specs.List.{flat_map}
 use Rattle.region.specs.Rings.{polygon_edges}
-use Rattle.region.specs.Named.{first_point}
-use Rattle.region.specs.Views.{box_of}
+use Rattle.plane_edges.specs.EdgePoints.{first_point}
+use Rattle.plane_edges.specs.Views.{box_of}
 use Rattle.region.proofs.polygons.first_point.Given as goal
 
 abbrev pub invariant-loop-polygon : goal.invariant-loop-polygon

@@ -1,7 +1,7 @@
 use Rattle.std.proofs.Common.{◌+◌, drop, ap, sym, ◌∙◌}
 use Rattle.region.specs.Rings.{Polygon, ring_edges, polygon_edges}
-use Rattle.region.specs.Named.{first_point}
-use Rattle.region.specs.Views.{place_of, box_of}
+use Rattle.plane_edges.specs.EdgePoints.{first_point}
+use Rattle.plane_edges.specs.Views.{place_of, box_of}
 use Rattle.region.proofs.Along.{next_left, first_here, first_later}
 use Rattle.region.proofs.polygons.rings_point.Goals as goal
 

@@ -1,7 +1,7 @@
 use Rattle.std.proofs.Common.{◌≡◌, drop}
 use Rattle.region.specs.Rings.{polygon_edges}
-use Rattle.region.specs.Named.{first_point}
-use Rattle.region.specs.Views.{box_of}
+use Rattle.plane_edges.specs.EdgePoints.{first_point}
+use Rattle.plane_edges.specs.Views.{box_of}
 use Rattle.region.proofs.polygons.rings_point.Given as goal
 
 abbrev pub invariant-loop-ring : goal.invariant-loop-ring

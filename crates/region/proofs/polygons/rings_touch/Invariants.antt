@@ -1,5 +1,5 @@
 use Rattle.std.proofs.Common.{drop}
-use Rattle.region.specs.Views.{place_of}
+use Rattle.plane_edges.specs.Views.{place_of}
 use Rattle.region.proofs.Along.{RingsTouched}
 use Rattle.region.proofs.polygons.rings_touch.Given as goal
 

@@ -3,7 +3,7 @@ use Rattle.std.specs.Int.{w64}
 use Rattle.std.proofs.lemmas.Int.{to_z-of_z}
 use Rattle.std.proofs.lemmas.Grind.{common_steps}
 use Rattle.region.specs.Rings.{edge_between}
-use Rattle.region.specs.Views.{segment_of}
+use Rattle.plane_edges.specs.Views.{segment_of}
 use Rattle.region.specs.Strips.{numbered}
 use Rattle.region.proofs.Along.{short_start, short_next, short_step, next_position}
 use Rattle.region.proofs.Keeping.{keep_joined, kept_along_more}

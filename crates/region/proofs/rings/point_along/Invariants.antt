@@ -1,5 +1,5 @@
 use Rattle.std.proofs.Common.{drop}
-use Rattle.region.specs.Views.{box_of}
+use Rattle.plane_edges.specs.Views.{box_of}
 use Rattle.region.proofs.Along.{Passed}
 use Rattle.region.proofs.rings.point_along.Given as goal
 

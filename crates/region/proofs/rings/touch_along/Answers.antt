@@ -1,8 +1,8 @@
 use Rattle.std.proofs.Common.{◌≡◌, [], drop, arith, sym, ◌∙◌}
 use Rattle.std.proofs.lemmas.Grind.{common_steps}
-use Rattle.region.specs.Plane.{crosses}
+use Rattle.plane_edges.specs.Plane.{crosses}
 use Rattle.region.specs.Rings.{edges_from}
-use Rattle.region.specs.Views.{place_of}
+use Rattle.plane_edges.specs.Views.{place_of}
 use Rattle.region.proofs.Along.{short_start, short_next}
 use Rattle.region.proofs.Odd.{xor_false, is_odd-count_by}
 use Rattle.region.proofs.rings.touch_along.Goals as goal

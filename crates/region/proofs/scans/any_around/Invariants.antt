@@ -1,7 +1,7 @@
 use Rattle.std.proofs.Common.{◌≡◌, drop, false}
-use Rattle.region.specs.Named.{corner}
+use Rattle.plane_edges.specs.EdgePoints.{corner}
 use Rattle.region.specs.Blocks.{AreBlocksOf, cut, is_in_some_block}
-use Rattle.region.specs.Views.{box_of}
+use Rattle.plane_edges.specs.Views.{box_of}
 use Rattle.region.proofs.scans.any_around.Given as goal
 
 abbrev pub invariant-loop-block : goal.invariant-loop-block

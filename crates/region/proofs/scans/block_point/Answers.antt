@@ -1,5 +1,5 @@
 use Rattle.std.proofs.Common.{sym}
-use Rattle.region.specs.Views.{box_of}
+use Rattle.plane_edges.specs.Views.{box_of}
 use Rattle.region.proofs.InBlocks.{none_under_or_over, none_left_or_right}
 use Rattle.region.proofs.scans.block_point.Goals as goal
 

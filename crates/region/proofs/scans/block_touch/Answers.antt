@@ -1,7 +1,7 @@
 use Rattle.std.proofs.Common.{map, sym, ◌∙◌}
-use Rattle.region.specs.Plane.{crosses}
-use Rattle.region.specs.Named.{corner}
-use Rattle.region.specs.Views.{box_of, segment_of}
+use Rattle.plane_edges.specs.Plane.{crosses}
+use Rattle.plane_edges.specs.EdgePoints.{corner}
+use Rattle.plane_edges.specs.Views.{box_of, segment_of}
 use Rattle.region.proofs.Odd.{is_odd-count_by}
 use Rattle.region.proofs.InBlocks.{all_beyond, none_on, none_crossed}
 use Rattle.region.proofs.scans.block_touch.Goals as goal

@@ -1,6 +1,6 @@
 use Rattle.std.proofs.Common.{◌≡◌, drop}
 use Rattle.region.specs.Blocks.{AreBlocksOf, cut, first_in_blocks}
-use Rattle.region.specs.Views.{box_of}
+use Rattle.plane_edges.specs.Views.{box_of}
 use Rattle.region.proofs.scans.first_in.Given as goal
 
 abbrev pub invariant-loop-block : goal.invariant-loop-block

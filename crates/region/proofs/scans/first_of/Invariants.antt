@@ -1,6 +1,6 @@
 use Rattle.std.proofs.Common.{◌≡◌, drop, map}
-use Rattle.region.specs.Named.{first_point}
-use Rattle.region.specs.Views.{box_of, segment_of}
+use Rattle.plane_edges.specs.EdgePoints.{first_point}
+use Rattle.plane_edges.specs.Views.{box_of, segment_of}
 use Rattle.region.proofs.scans.first_of.Given as goal
 
 abbrev pub invariant-loop-edge : goal.invariant-loop-edge

@@ -1,7 +1,7 @@
 use Rattle.std.proofs.Common.{◌≡◌, [], drop, map, arith, sym, ◌∙◌}
 use Rattle.std.proofs.lemmas.Grind.{common_steps}
-use Rattle.region.specs.Plane.{crosses}
-use Rattle.region.specs.Views.{place_of, segment_of}
+use Rattle.plane_edges.specs.Plane.{crosses}
+use Rattle.plane_edges.specs.Views.{place_of, segment_of}
 use Rattle.region.proofs.Odd.{xor_false, is_odd-count_by}
 use Rattle.region.proofs.scans.touch_of.Goals as goal
 

@@ -1,8 +1,7 @@
 use Rattle.std.proofs.Common.{◌≡◌, ◌||◌, drop, map}
 use Rattle.std.specs.List.{list_any}
-use Rattle.region.specs.Plane.{is_on, crosses}
-use Rattle.region.specs.Rings.{xor}
-use Rattle.region.specs.Views.{place_of, segment_of}
+use Rattle.plane_edges.specs.Plane.{is_on, crosses, xor}
+use Rattle.plane_edges.specs.Views.{place_of, segment_of}
 use Rattle.region.proofs.Odd.{odd_by}
 use Rattle.region.proofs.scans.touch_of.Given as goal
 

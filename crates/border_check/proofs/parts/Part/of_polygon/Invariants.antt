@@ -1,6 +1,6 @@
 use Rattle.std.proofs.Common.{drop}
-use Rattle.region.specs.Named.{corner}
-use Rattle.region.specs.Plane.{crosses}
+use Rattle.plane_edges.specs.EdgePoints.{corner}
+use Rattle.plane_edges.specs.Plane.{crosses}
 use Rattle.region.specs.Vectors.{rings_in}
 use Rattle.border_check.specs.Views.{box_of}
 use Rattle.border_check.specs.Shares.{meets}

@@ -1,8 +1,8 @@
 use Rattle.std.proofs.Common.{map, rules, FitsSigned, [], ◌∷◌, refl, ap, ◌∙◌}
 use Rattle.std.specs.Int.{w64}
 use Rattle.std.proofs.lemmas.Int.{to_z-of_z}
-use Rattle.region.specs.Named.{corner}
-use Rattle.region.specs.Plane.{crosses}
+use Rattle.plane_edges.specs.EdgePoints.{corner}
+use Rattle.plane_edges.specs.Plane.{crosses}
 use Rattle.border_check.specs.Views.{box_of, segment_of}
 use Rattle.border_check.specs.Shares.{PartView, grown, meets}
 use Rattle.border_check.proofs.Growing.{grow_one}

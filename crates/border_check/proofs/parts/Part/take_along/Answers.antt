@@ -1,11 +1,11 @@
 use Rattle.std.proofs.Common.{◌+◌, ◌∷◌, [], drop, get_or, pos, ap, ◌∙◌}
 use Rattle.std.specs.List.{list_any}
 use Rattle.region.specs.Extent.{is_far}
-use Rattle.region.specs.Named.{corner}
-use Rattle.region.specs.Plane.{Segment, crosses}
+use Rattle.plane_edges.specs.EdgePoints.{corner}
+use Rattle.plane_edges.specs.Plane.{Segment, crosses}
 use Rattle.border_check.specs.Views.{box_of}
 use Rattle.region.proofs.Along.{next_position}
-use Rattle.region.proofs.Truth.{neither}
+use Rattle.plane_edges.proofs.Truth.{neither}
 use Rattle.border_check.specs.Shares.{grown, meets}
 use Rattle.border_check.proofs.Growing.{taken_more}
 use Rattle.border_check.proofs.parts.Part.take_along.Goals as goal

@@ -1,6 +1,6 @@
 use Rattle.std.proofs.Common.{arith, ap, ◌∙◌}
 use Rattle.std.proofs.lemmas.Int.{ints}
-use Rattle.region.specs.Plane.{Box}
+use Rattle.plane_edges.specs.Plane.{Box}
 use Rattle.region.specs.Named.{named}
 use Rattle.cell_judge.proofs.StripLemmas.{box_is, strip_at}
 use Rattle.cell_judge.proofs.sky.Sky.named_by_edges.Goals as goal

@@ -1,9 +1,9 @@
 use Rattle.std.proofs.Common.{cond, Some, None, refl, ap, ◌∙◌}
-use Rattle.region.specs.Named.{corner}
+use Rattle.plane_edges.specs.EdgePoints.{corner}
 use Rattle.region.specs.Blocks.{AreBlocksOf}
 use Rattle.region.specs.Strips.{BandView}
-use Rattle.region.specs.Views.{box_of}
-use Rattle.region.proofs.Truth.{or_after, or_first}
+use Rattle.plane_edges.specs.Views.{box_of}
+use Rattle.plane_edges.proofs.Truth.{or_after, or_first}
 use Rattle.region.proofs.InBlocks.{named_in_blocks}
 use Rattle.region.proofs.bands.Band.meets.Goals as goal
 

@@ -1,10 +1,11 @@
 use Rattle.std.proofs.Common.{List, sym, ap, ◌∙◌}
 use Rattle.std.specs.List.{flat_map}
 use Rattle.region.specs.Rings.{Polygon, polygon_edges, is_in_district}
-use Rattle.region.specs.Named.{corner, first_point}
+use Rattle.plane_edges.specs.EdgePoints.{corner, first_point}
 use Rattle.region.specs.Faults.{first_fault}
-use Rattle.region.specs.Views.{place_of, box_of}
-use Rattle.region.proofs.Wholly.{first_in, corner_ordered, in_district_alike}
+use Rattle.plane_edges.specs.Views.{place_of, box_of}
+use Rattle.region.proofs.Wholly.{first_in, in_district_alike}
+use Rattle.plane_edges.proofs.Parity.{corner_ordered}
 use Rattle.region.proofs.Sound.{sound}
 use Rattle.region.proofs.districts.District.meets.Goals as goal
 
