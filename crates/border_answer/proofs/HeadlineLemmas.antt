@@ -1,7 +1,7 @@
 -- A run that ends with a verdict printed a true one.
 use Rattle.std.proofs.Common.{◌≡◌, inl, inr, ℕ, List, [], ◌∷◌, Option, Some, None, Ok, Err, refl, sym, subst, ◌∙◌}
 use Rattle.std.specs.Prelude.{◌≢◌}
-use Rattle.region.specs.Rings.{Polygon}
+use Rattle.ring_survey.specs.Polygons.{Polygon}
 use Rattle.border_check.specs.Squares.{root}
 use Rattle.border_check.specs.declared.squares.Square.{Square}
 use Rattle.border_check.proofs.Drawing.{drawn, district_drawn}

@@ -9,7 +9,7 @@ use Rattle.outcome.specs.declared.ending.Ending.{Ending}
 use Rattle.outcome.specs.declared.status.Status.{Status}
 use Rattle.outcome.specs.declared.status.Status.TheVariants.{Done, Open, NoMemory, ReadFault}
 use Rattle.source_sink.specs.Reading.{GivesWithin, IsReadToEnd}
-use Rattle.region.specs.Faults.{first_fault}
+use Rattle.ring_survey.specs.Faults.{first_fault}
 use Rattle.border_check.specs.Borders.{border_fault}
 use Rattle.border_input.specs.Requests.{Requested}
 use Rattle.border_input.specs.Taken.{Input, IsSpelledBy, request_limit}

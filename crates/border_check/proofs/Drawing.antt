@@ -4,15 +4,14 @@ use Rattle.std.specs.Prelude.{nat_lt}
 use Rattle.std.specs.Option.{option_or}
 use Rattle.std.specs.List.{list_any, list_all, flat_map}
 use Rattle.std.proofs.lemmas.List.Folds.{list_all-append}
-use Rattle.region.specs.declared.faults.RegionFault.{RegionFault}
-use Rattle.region.specs.declared.faults.RegionFault.TheVariants.{Short, Open, TooMany, TooFar, NoPolygon}
-use Rattle.region.specs.Rings.{Ring, Polygon, is_closed}
-use Rattle.region.specs.Extent.{is_far, positions_of}
-use Rattle.region.specs.Faults.{ring_fault, lacks_ring, first_fault}
-use Rattle.region.specs.Laws.{are_closed}
+use Rattle.ring_survey.specs.declared.faults.RegionFault.{RegionFault}
+use Rattle.ring_survey.specs.declared.faults.RegionFault.TheVariants.{Short, Open, TooMany, TooFar, NoPolygon}
+use Rattle.ring_survey.specs.Polygons.{Ring, Polygon, is_closed, are_closed}
+use Rattle.ring_survey.specs.Extent.{is_far, positions_of}
+use Rattle.ring_survey.specs.Faults.{ring_fault, lacks_ring, first_fault}
 use Rattle.plane_edges.proofs.Truth.{and_true, and_left, and_right, or_none_left, or_none_right}
-use Rattle.region.proofs.Counting.{ring_fault-append}
-use Rattle.region.proofs.Sound.{else_none, sound}
+use Rattle.ring_survey.proofs.Counting.{ring_fault-append}
+use Rattle.ring_survey.proofs.Sound.{else_none, sound}
 use Rattle.border_check.specs.Borders.{border_fault, positions_in, IsDrawn}
 
 then_none : {A : Type 0} (b : Bool) (x : A) (o : Option A) → cond b o (Some x) ≡ None → (b ≡ true) × (o ≡ None)

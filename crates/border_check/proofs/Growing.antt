@@ -5,10 +5,11 @@ use Rattle.std.specs.List.{filter, list_any}
 use Rattle.std.proofs.lemmas.List.Folds.{list_any-append}
 use Rattle.std.proofs.lemmas.List.Elements.{filter-append}
 use Rattle.plane_edges.specs.Plane.{Box, Segment, xor}
-use Rattle.region.specs.Rings.{is_odd, Position, Ring, Polygon, edge_between, edges_from, ring_edges, polygon_edges}
-use Rattle.region.specs.Extent.{is_far, positions_of}
+use Rattle.region.specs.Rings.{is_odd, edge_between, edges_from, ring_edges, polygon_edges}
+use Rattle.ring_survey.specs.Polygons.{Position, Ring, Polygon}
+use Rattle.ring_survey.specs.Extent.{is_far, positions_of}
 use Rattle.plane_edges.proofs.Truth.{neither}
-use Rattle.region.specs.Faults.{is_empty}
+use Rattle.ring_survey.specs.Faults.{is_empty}
 use Rattle.region.proofs.Odd.{odd_by, odd_by-append, is_odd-count_by, xor_assoc, xor_false}
 use Rattle.border_check.specs.Borders.{positions_in}
 use Rattle.border_check.specs.Shares.{PartView, ShareView, grown, with_part, with_last, part_of, share_of}

@@ -5,7 +5,7 @@ use Rattle.std.specs.List.{list_any}
 use Rattle.std.proofs.lemmas.Bool.{false≢true}
 use Rattle.plane_edges.specs.Plane.{Place, Segment, Box, IsIn, is_on, IsOrdered}
 use Rattle.plane_edges.specs.EdgePoints.{edge_point, first_point, corner}
-use Rattle.region.specs.Faults.{is_empty}
+use Rattle.ring_survey.specs.Faults.{is_empty}
 use Rattle.plane_edges.proofs.Truth.{or_left, or_right, or_some}
 use Rattle.plane_edges.proofs.Apart.{apart}
 use Rattle.plane_edges.proofs.OnEdge.{edge_met}

@@ -4,8 +4,8 @@ use Rattle.std.proofs.Math.IntN.{ℤ, pos, ◌+ℤ◌, ◌*ℤ◌, neg_ℤ}
 use Rattle.std.specs.Prelude.{◌≤ℤ◌, ◌<ℤ◌}
 use Rattle.std.proofs.lemmas.Int.{ints}
 use Rattle.plane_edges.specs.Magnitude.{IsWithin}
-use Rattle.region.specs.Rings.{Position}
-use Rattle.region.specs.Extent.{is_far}
+use Rattle.ring_survey.specs.Polygons.{Position}
+use Rattle.ring_survey.specs.Extent.{is_far}
 use Rattle.region.proofs.Along.{near}
 use Rattle.border_check.specs.declared.squares.Square.{Square}
 use Rattle.border_check.specs.Squares.{IsNear, half, quarter, side}

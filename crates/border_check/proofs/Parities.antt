@@ -6,7 +6,8 @@ use Rattle.std.specs.Option.{is_some}
 use Rattle.std.specs.List.{list_all}
 use Rattle.std.proofs.lemmas.Int.{ints}
 use Rattle.plane_edges.specs.Plane.{Place, Segment, Box, IsIn, crosses, xor}
-use Rattle.region.specs.Rings.{Position, Ring, Polygon, edge_between, edges_from, ring_edges, polygon_edges, last_after, is_closed}
+use Rattle.ring_survey.specs.Polygons.{Position, Ring, Polygon, last_after, is_closed}
+use Rattle.region.specs.Rings.{edge_between, edges_from, ring_edges, polygon_edges}
 use Rattle.plane_edges.specs.EdgePoints.{edge_point, corner}
 use Rattle.plane_edges.proofs.Truth.{same, by_same, by_table, and_left, and_right}
 use Rattle.region.proofs.Odd.{odd_by, odd_by-append, is_odd-count_by}

@@ -4,10 +4,10 @@ use Rattle.std.specs.Prelude.{count_by}
 use Rattle.std.specs.Option.{is_none, option_or}
 use Rattle.std.specs.List.{list_any, list_all, flat_map}
 use Rattle.plane_edges.specs.Plane.{Segment, Box, is_on, xor, IsOrdered}
-use Rattle.region.specs.Rings.{Polygon, polygon_edges, is_closed, is_odd, is_in_district}
+use Rattle.ring_survey.specs.Polygons.{Polygon, is_closed, are_closed}
+use Rattle.region.specs.Rings.{polygon_edges, is_odd, is_in_district}
 use Rattle.plane_edges.specs.EdgePoints.{first_point, corner}
-use Rattle.region.specs.Faults.{is_empty}
-use Rattle.region.specs.Laws.{are_closed}
+use Rattle.ring_survey.specs.Faults.{is_empty}
 use Rattle.plane_edges.proofs.Truth.{and_left, and_right}
 use Rattle.region.proofs.Odd.{is_odd-count_by}
 use Rattle.region.proofs.Wholly.{first_point-append}

@@ -9,9 +9,9 @@ use Rattle.std.proofs.lemmas.Nat.{pow_pos}
 use Rattle.std.proofs.lemmas.Int.{ints, by_lt_z}
 use Rattle.std.proofs.lemmas.Bool.{false≢true}
 use Rattle.plane_edges.specs.Plane.{Place, Box, IsIn, IsOrdered}
-use Rattle.region.specs.Rings.{Polygon, polygon_edges, is_in_district}
+use Rattle.ring_survey.specs.Polygons.{Polygon, are_closed}
+use Rattle.region.specs.Rings.{polygon_edges, is_in_district}
 use Rattle.plane_edges.specs.EdgePoints.{first_point, corner}
-use Rattle.region.specs.Laws.{are_closed}
 use Rattle.plane_edges.proofs.Products.{times_mono}
 use Rattle.plane_edges.proofs.Truth.{and_left, and_right, not_false, or_cases, or_none_left, or_none_right, or_some, neither}
 use Rattle.region.proofs.Wholly.{in_district_alike, first_in}

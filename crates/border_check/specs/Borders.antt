@@ -2,12 +2,11 @@
 use Rattle.std.specs.Prelude.{◌≡◌, true, false, nat_lt, if◌then◌else◌, List, length, Option, Some, None}
 use Rattle.std.specs.Option.{option_or}
 use Rattle.std.specs.List.{list_any, flat_map}
-use Rattle.region.specs.declared.faults.RegionFault.{RegionFault}
-use Rattle.region.specs.declared.faults.RegionFault.TheVariants.{TooMany, TooFar, NoPolygon}
-use Rattle.region.specs.Rings.{Position, Polygon}
-use Rattle.region.specs.Extent.{is_far, positions_of}
-use Rattle.region.specs.Laws.{are_closed}
-use Rattle.region.specs.Faults.{lacks_ring, ring_fault}
+use Rattle.ring_survey.specs.declared.faults.RegionFault.{RegionFault}
+use Rattle.ring_survey.specs.declared.faults.RegionFault.TheVariants.{TooMany, TooFar, NoPolygon}
+use Rattle.ring_survey.specs.Polygons.{Position, Polygon, are_closed}
+use Rattle.ring_survey.specs.Extent.{is_far, positions_of}
+use Rattle.ring_survey.specs.Faults.{lacks_ring, ring_fault}
 
 -- the positions of a polygon's rings
 abbrev pub positions_in : Polygon → List Position

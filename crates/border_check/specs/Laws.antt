@@ -2,8 +2,8 @@
 use Rattle.std.specs.Prelude.{◌≡◌, ◌⊎◌, List, Some, None, IsTrue, IsFalse}
 use Rattle.std.specs.List.{list_any, flat_map}
 use Rattle.plane_edges.specs.Plane.{Place, Box, IsIn, is_on}
-use Rattle.region.specs.Rings.{Polygon, polygon_edges, is_in_district}
-use Rattle.region.specs.Laws.{are_closed}
+use Rattle.ring_survey.specs.Polygons.{Polygon, are_closed}
+use Rattle.region.specs.Rings.{polygon_edges, is_in_district}
 use Rattle.border_check.specs.declared.squares.Square.{Square}
 use Rattle.border_check.specs.Squares.{box_in}
 use Rattle.border_check.specs.Settled.{unsettled}

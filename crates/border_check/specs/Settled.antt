@@ -3,9 +3,10 @@ use Rattle.std.specs.Prelude.{ℕ, zero, suc, Bool, true, false, not, ◌&&◌, 
 use Rattle.std.specs.Option.{is_none, option_or}
 use Rattle.std.specs.List.{flat_map}
 use Rattle.plane_edges.specs.Plane.{Box}
-use Rattle.region.specs.Rings.{Polygon, polygon_edges, is_in_district}
+use Rattle.ring_survey.specs.Polygons.{Polygon}
+use Rattle.region.specs.Rings.{polygon_edges, is_in_district}
 use Rattle.plane_edges.specs.EdgePoints.{first_point, corner}
-use Rattle.region.specs.Faults.{is_empty}
+use Rattle.ring_survey.specs.Faults.{is_empty}
 use Rattle.border_check.specs.declared.squares.Square.{Square}
 use Rattle.border_check.specs.Shares.{ShareView, share_within}
 use Rattle.border_check.specs.Squares.{box_in, quarter}

@@ -4,9 +4,10 @@ use Rattle.std.specs.Prelude.{ℤ, int_lt, Bool, false, not, ◌&&◌, ◌||◌,
 use Rattle.std.specs.Option.{is_some}
 use Rattle.std.specs.List.{filter}
 use Rattle.plane_edges.specs.Plane.{Place, Segment, Box, is_above, crosses, xor}
-use Rattle.region.specs.Rings.{Polygon, polygon_edges, is_odd}
+use Rattle.ring_survey.specs.Polygons.{Polygon}
+use Rattle.region.specs.Rings.{polygon_edges, is_odd}
 use Rattle.plane_edges.specs.EdgePoints.{edge_point, corner}
-use Rattle.region.specs.Faults.{is_empty}
+use Rattle.ring_survey.specs.Faults.{is_empty}
 
 -- some place of the edge is in the box
 abbrev pub meets : Box → Segment → Bool

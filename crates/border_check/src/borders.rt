@@ -1,8 +1,8 @@
 // Borders, and whether a district holds one.
 ghost use Rattle.std.specs.Prelude.{◌≡◌, ◌⊎◌, ℤ, List, length, Some, None, Ok, Err, IfOk, IfErr, OnOk, IsFalse};
 ghost use Rattle.std.specs.List.{list_any};
-ghost use Rattle.region.specs.Extent.{is_far, positions_of};
-ghost use Rattle.region.specs.Vectors.{rings_in, polygons_in};
+ghost use Rattle.ring_survey.specs.Extent.{is_far, positions_of};
+ghost use Rattle.ring_survey.specs.Vectors.{rings_in, polygons_in};
 ghost use Rattle.border_check.specs.Borders.{border_fault, IsDrawn};
 ghost use Rattle.border_check.specs.Laws.{HoldsIn, IsOpen};
 ghost use Rattle.border_check.specs.Settled.{unsettled};

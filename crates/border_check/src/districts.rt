@@ -1,6 +1,6 @@
 // A district's polygons, position by position.
 ghost use Rattle.std.specs.Prelude.{◌≡◌, ◌<◌, [], length, slice_index_or, IfOk};
-ghost use Rattle.region.specs.Vectors.{rings_in, polygons_in};
+ghost use Rattle.ring_survey.specs.Vectors.{rings_in, polygons_in};
 
 use region::{District, RingList};
 use std::alloc::{AllocError, Global};

@@ -1,6 +1,6 @@
 // Why a list of polygons is no border.
 ghost use Rattle.std.specs.Prelude.{◌≡◌};
-ghost use Rattle.region.specs.Vectors.{polygons_in};
+ghost use Rattle.ring_survey.specs.Vectors.{polygons_in};
 ghost use Rattle.border_check.specs.Borders.{border_fault};
 
 use region::{RegionFault, RingList, check_rings, lacks_ring, reaches_far, room_left};

@@ -1,12 +1,12 @@
 // The edges of one polygon that meet a box, and the parity at the box's corner.
 ghost use Rattle.std.specs.Prelude.{◌≡◌, ℤ, pos, ◌*ℤ◌, map, [], ◌∷◌, ◌++◌, IfOk, OnOk, IsFalse, false};
 ghost use Rattle.std.specs.List.{list_any};
-ghost use Rattle.region.specs.Extent.{is_far};
-ghost use Rattle.region.specs.Faults.{is_empty};
+ghost use Rattle.ring_survey.specs.Extent.{is_far};
+ghost use Rattle.ring_survey.specs.Faults.{is_empty};
 ghost use Rattle.plane_edges.specs.EdgePoints.{corner};
 ghost use Rattle.plane_edges.specs.Plane.{crosses, xor};
 ghost use Rattle.region.specs.Rings.{edge_between, edges_from, ring_edges, polygon_edges};
-ghost use Rattle.region.specs.Vectors.{rings_in};
+ghost use Rattle.ring_survey.specs.Vectors.{rings_in};
 ghost use Rattle.border_check.specs.Borders.{positions_in};
 ghost use Rattle.border_check.specs.Shares.{PartView, near, grown, part_of, part_within, meets};
 ghost use Rattle.border_check.specs.Views.{box_of, segment_of};

@@ -1,9 +1,9 @@
 // What of a list of polygons matters in a box.
 ghost use Rattle.std.specs.Prelude.{◌≡◌, IfOk, OnOk, IsFalse, ◌&&◌, ◌||◌, not, false};
 ghost use Rattle.std.specs.List.{list_any};
-ghost use Rattle.region.specs.Extent.{is_far, positions_of};
-ghost use Rattle.region.specs.Faults.{is_empty};
-ghost use Rattle.region.specs.Vectors.{polygons_in};
+ghost use Rattle.ring_survey.specs.Extent.{is_far, positions_of};
+ghost use Rattle.ring_survey.specs.Faults.{is_empty};
+ghost use Rattle.ring_survey.specs.Vectors.{polygons_in};
 ghost use Rattle.border_check.specs.Settled.{settles};
 ghost use Rattle.border_check.specs.Shares.{PartView, ShareView, share_of, share_within, with_last};
 ghost use Rattle.border_check.specs.Views.{box_of};

@@ -2,8 +2,8 @@
 use Rattle.std.specs.Prelude.{List, Option, Some, None, Result, Ok, Err, codes}
 use Rattle.std.specs.Option.{ok_or}
 use Rattle.exact_json.specs.Tree.{Tree, Entry}
-use Rattle.region.specs.Rings.{Polygon}
-use Rattle.region.specs.declared.faults.RegionFault.{RegionFault}
+use Rattle.ring_survey.specs.Polygons.{Polygon}
+use Rattle.ring_survey.specs.declared.faults.RegionFault.{RegionFault}
 use Rattle.geo_json.specs.Geometry.{geometry_of}
 use Rattle.geo_json.specs.Lookup.{Found, absent, once, again, find_member, object_in}
 use Rattle.order_reader.specs.Reading.{needed, order_in}

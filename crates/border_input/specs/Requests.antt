@@ -1,6 +1,6 @@
 -- What a request asks for: an order and a border, without the proofs of their rules.
 use Rattle.std.specs.Prelude.{List}
-use Rattle.region.specs.Rings.{Polygon}
+use Rattle.ring_survey.specs.Polygons.{Polygon}
 use Rattle.order_rule.specs.Asked.{Asked, asked_of}
 use Rattle.border_input.specs.declared.request.Request.{Request}
 

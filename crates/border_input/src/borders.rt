@@ -1,7 +1,7 @@
 // The border of a value of JSON.
 ghost use Rattle.std.specs.Prelude.{codes};
 ghost use Rattle.exact_json.specs.View.{entries_of, tree_of};
-ghost use Rattle.region.specs.Vectors.{polygons_in};
+ghost use Rattle.ring_survey.specs.Vectors.{polygons_in};
 ghost use Rattle.border_input.specs.Gives.{Gives};
 ghost use Rattle.border_input.specs.Reading.{border_in, border_of, border_value};
 

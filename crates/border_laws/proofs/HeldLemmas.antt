@@ -6,12 +6,13 @@ use Rattle.std.specs.Int.{int_min, int_max}
 use Rattle.std.specs.List.{list_any}
 use Rattle.std.proofs.lemmas.Int.{ints, clamps}
 use Rattle.plane_edges.specs.Plane.{Place, IsIn}
-use Rattle.region.specs.Rings.{Position, Polygon, is_in_district}
-use Rattle.region.specs.Extent.{is_far, longitudes, latitudes, least, greatest, positions_of}
+use Rattle.ring_survey.specs.Polygons.{Position, Polygon}
+use Rattle.region.specs.Rings.{is_in_district}
+use Rattle.ring_survey.specs.Extent.{is_far, longitudes, latitudes, least, greatest, positions_of}
 use Rattle.plane_edges.proofs.Products.{times_mono}
 use Rattle.plane_edges.proofs.Truth.{neither}
 use Rattle.region.proofs.Along.{near}
-use Rattle.region.proofs.Reach.{AllIn}
+use Rattle.ring_survey.proofs.Reach.{AllIn}
 use Rattle.cell_split.specs.declared.verdict.Entry.TheVariants.{Minute, Whole, Never, Open}
 use Rattle.border_check.specs.Borders.{IsDrawn}
 use Rattle.border_check.specs.Squares.{box_in, root}

@@ -1,8 +1,9 @@
 -- What it means that a district holds a border, for places and for the entries of the district's table.
 use Rattle.std.specs.Prelude.{◌≡◌, ◌<ℤ◌, pos, ℕ, List, None, IsTrue}
 use Rattle.plane_edges.specs.Plane.{Place}
-use Rattle.region.specs.Rings.{Polygon, is_in_district}
-use Rattle.region.specs.Faults.{first_fault}
+use Rattle.ring_survey.specs.Polygons.{Polygon}
+use Rattle.region.specs.Rings.{is_in_district}
+use Rattle.ring_survey.specs.Faults.{first_fault}
 use Rattle.cell_split.specs.declared.cell.Cell.{Cell}
 use Rattle.cell_split.specs.declared.verdict.Entry.{Entry}
 use Rattle.cell_split.specs.declared.verdict.Entry.TheVariants.{Minute, Whole, Never, Open}

@@ -2,13 +2,14 @@
 use Rattle.std.proofs.Common.{◌≡◌, ℕ, ◌*◌, ◌^◌, ◌≤◌, Some, None, refl, ap, arith}
 use Rattle.std.specs.Prelude.{pos, ◌+ℤ◌, ◌*ℤ◌, ◌<ℤ◌, List, Option, IsFalse, IsTrue, MatchOption}
 use Rattle.std.proofs.lemmas.Int.{ints}
-use Rattle.region.specs.Extent.{latitudes, longitudes, greatest}
-use Rattle.region.specs.Faults.{first_fault}
+use Rattle.ring_survey.specs.Extent.{latitudes, longitudes, greatest}
+use Rattle.ring_survey.specs.Faults.{first_fault}
 use Rattle.plane_edges.specs.Plane.{IsOrdered, Box, IsIn, Place}
 use Rattle.region.specs.Named.{named}
-use Rattle.region.specs.Rings.{Polygon, is_in_district}
+use Rattle.ring_survey.specs.Polygons.{Polygon}
+use Rattle.region.specs.Rings.{is_in_district}
 use Rattle.plane_edges.proofs.Products.{times_strict}
-use Rattle.region.proofs.Sound.{sound}
+use Rattle.ring_survey.proofs.Sound.{sound}
 use Rattle.region.proofs.Wholly.{names_exactly}
 use Rattle.cell_split.specs.declared.cell.Cell.{Cell}
 use Rattle.cell_split.specs.Cells.{IsCellOf, IsRoot}

@@ -11,7 +11,7 @@ use Rattle.method_table.specs.declared.problem.Kind.{Kind}
 use Rattle.method_table.specs.declared.problem.Kind.TheVariants.{Above, Below, Past, Shadow}
 use Rattle.method_table.specs.Kind.{IsKind}
 use Rattle.method_table.specs.Row.{time_of}
-use Rattle.region.specs.Extent.{longitudes, latitudes, least}
+use Rattle.ring_survey.specs.Extent.{longitudes, latitudes, least}
 use Rattle.cell_split.specs.declared.verdict.Entry.TheVariants.{Minute, Whole, Never, Open}
 use Rattle.cell_split.specs.Judges.{Content, IsLawful, IsTask}
 use Rattle.cell_split.specs.Cells.{IsCellOf, root_at}

@@ -4,14 +4,14 @@ use Rattle.std.specs.Prelude.{ℤ, pos, neg_ℤ, ◌-ℤ◌, ◌+ℤ◌, ◌*ℤ
 use Rattle.std.specs.Int.{int_min}
 use Rattle.std.specs.List.{list_any}
 use Rattle.std.proofs.lemmas.Int.{ints, clamps}
-use Rattle.region.specs.Rings.{Position, Polygon}
-use Rattle.region.specs.Extent.{is_far, is_wide, longitudes, latitudes, least, greatest, positions_of}
-use Rattle.region.specs.Faults.{first_fault}
+use Rattle.ring_survey.specs.Polygons.{Position, Polygon}
+use Rattle.ring_survey.specs.Extent.{is_far, is_wide, longitudes, latitudes, least, greatest, positions_of}
+use Rattle.ring_survey.specs.Faults.{first_fault}
 use Rattle.plane_edges.proofs.Truth.{is_ge, neither}
 use Rattle.region.proofs.Along.{near}
 use Rattle.plane_edges.proofs.Products.{times_mono}
-use Rattle.region.proofs.Reach.{AllIn}
-use Rattle.region.proofs.Sound.{sound}
+use Rattle.ring_survey.proofs.Reach.{AllIn}
+use Rattle.ring_survey.proofs.Sound.{sound}
 use Rattle.cell_split.specs.declared.cell.Cell.{Cell}
 use Rattle.cell_split.specs.Cells.{root_at, side}
 use Rattle.cell_judge.specs.Limits.{IsOver}

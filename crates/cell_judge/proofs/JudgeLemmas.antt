@@ -7,7 +7,7 @@ use Rattle.altitude_test.specs.Values.{Box}
 use Rattle.method_table.specs.declared.problem.Problem.{Problem}
 use Rattle.method_table.specs.Row.{Row, row_of}
 use Rattle.plane_edges.specs.declared.points.Point.{Point}
-use Rattle.region.specs.Rings.{Polygon}
+use Rattle.ring_survey.specs.Polygons.{Polygon}
 use Rattle.region.specs.Named.{named}
 use Rattle.plane_edges.specs.Views.{place_of}
 use Rattle.cell_split.specs.declared.cell.Cell.{Cell}

@@ -7,17 +7,18 @@ use Rattle.std.specs.List.{flat_map, list_all}
 use Rattle.std.proofs.lemmas.Int.{ints, by_lt_z}
 use Rattle.plane_edges.specs.Magnitude.{IsWithin}
 use Rattle.plane_edges.specs.Plane.{Place, Segment, Box, IsIn, encloses}
-use Rattle.region.specs.Rings.{Position, Ring, Polygon, edges_from, ring_edges, polygon_edges, is_in_district}
-use Rattle.region.specs.Extent.{is_far, is_compact, is_compact_from, is_step}
-use Rattle.region.specs.Faults.{first_fault}
+use Rattle.ring_survey.specs.Polygons.{Position, Ring, Polygon}
+use Rattle.region.specs.Rings.{edges_from, ring_edges, polygon_edges, is_in_district}
+use Rattle.ring_survey.specs.Extent.{is_far, is_compact, is_compact_from, is_step}
+use Rattle.ring_survey.specs.Faults.{first_fault}
 use Rattle.plane_edges.specs.EdgePoints.{progress, passing, at_start, at_longitude, at_latitude, edge_point, first_point, corner}
 use Rattle.region.specs.Named.{named}
 use Rattle.plane_edges.proofs.Truth.{and_left, and_right, and_true, le_true, map_some, or_left, or_right, or_some, some_is}
 use Rattle.plane_edges.proofs.Products.{mul_within}
 use Rattle.plane_edges.proofs.OnEdge.{progress_within}
 use Rattle.region.proofs.Along.{short_rest, short_start, is_edge}
-use Rattle.region.proofs.Reach.{all_short}
-use Rattle.region.proofs.Sound.{sound}
+use Rattle.ring_survey.proofs.Reach.{all_short}
+use Rattle.ring_survey.proofs.Sound.{sound}
 use Rattle.cell_judge.specs.Points.{IsPoint}
 
 -- an edge that spans at most 2^29 place units each way

@@ -20,11 +20,12 @@ use Rattle.method_table.specs.declared.problem.Side.TheVariants.{Start, End}
 use Rattle.method_table.specs.Row.{Row, minute_at, row_of, time_of}
 use Rattle.plane_edges.specs.declared.points.Point.{Point}
 use Rattle.plane_edges.specs.Plane.{IsIn, Place, IsOrdered}
-use Rattle.region.specs.Rings.{Polygon, is_in_district}
-use Rattle.region.specs.Faults.{first_fault}
+use Rattle.ring_survey.specs.Polygons.{Polygon}
+use Rattle.region.specs.Rings.{is_in_district}
+use Rattle.ring_survey.specs.Faults.{first_fault}
 use Rattle.region.specs.Named.{named}
 use Rattle.plane_edges.specs.Views.{place_of}
-use Rattle.region.proofs.Sound.{sound}
+use Rattle.ring_survey.proofs.Sound.{sound}
 use Rattle.plane_edges.proofs.Truth.{and_left, and_right}
 use Rattle.region.proofs.Wholly.{names_exactly}
 use Rattle.cell_split.specs.declared.cell.Cell.{Cell}

@@ -4,7 +4,7 @@ use Rattle.std.specs.Prelude.{ℤ, pos, ◌+ℤ◌}
 use Rattle.std.specs.List.{slice_get}
 use Rattle.std.proofs.lemmas.Option.{get_or_from_slice_get, slice_get_within}
 use Rattle.plane_edges.specs.declared.rects.Rect.{Rect}
-use Rattle.region.specs.Rings.{Polygon}
+use Rattle.ring_survey.specs.Polygons.{Polygon}
 use Rattle.region.specs.Strips.{AreStripsOf, IsStripOf, StripView}
 use Rattle.plane_edges.specs.Views.{box_of as box_of_rect}
 use Rattle.cell_split.specs.declared.cell.Cell.{Cell}

@@ -4,10 +4,10 @@ use Rattle.std.specs.Prelude.{pos, ◌+ℤ◌, Option, None}
 use Rattle.std.specs.Option.{option_map}
 use Rattle.std.specs.declared.vec.Vec.{Vec}
 use Rattle.plane_edges.specs.declared.points.Point.{Point}
-use Rattle.region.specs.Faults.{first_fault}
+use Rattle.ring_survey.specs.Faults.{first_fault}
 use Rattle.region.specs.Named.{named}
 use Rattle.plane_edges.specs.Plane.{Box}
-use Rattle.region.specs.Rings.{Polygon}
+use Rattle.ring_survey.specs.Polygons.{Polygon}
 use Rattle.plane_edges.specs.Views.{place_of}
 use Rattle.cell_split.specs.declared.cell.Cell.{Cell}
 use Rattle.cell_split.specs.Cells.{IsCellOf, IsRoot}

@@ -4,8 +4,8 @@ use Rattle.std.specs.Prelude.{ℤ, pos, ◌+ℤ◌, ◌-ℤ◌, ◌≤ℤ◌, mi
 use Rattle.std.proofs.Math.Nat.{lt_of_mul-lt-mul_right, mul-le-mul_right}
 use Rattle.std.proofs.lemmas.Int.{ints}
 use Rattle.std.proofs.lemmas.Nat.{pow-add, pow_pos, div-add-mod'}
-use Rattle.region.specs.Extent.{least, greatest}
-use Rattle.region.proofs.Reach.{all_in}
+use Rattle.ring_survey.specs.Extent.{least, greatest}
+use Rattle.ring_survey.proofs.Reach.{all_in}
 use Rattle.cell_split.specs.declared.cell.Cell.{Cell}
 use Rattle.cell_split.specs.Cells.{side}
 use Rattle.cell_split.specs.Laws.{box_of}

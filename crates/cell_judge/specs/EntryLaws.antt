@@ -3,8 +3,8 @@ use Rattle.std.specs.Prelude.{◌≡◌, ◌<◌, ℕ, None}
 use Rattle.solar_terms.specs.SunLaws.{IsSunSource}
 use Rattle.method_table.specs.Kind.{IsKind}
 use Rattle.plane_edges.specs.Plane.{Place, IsIn}
-use Rattle.region.specs.Extent.{longitudes, latitudes, least}
-use Rattle.region.specs.Faults.{first_fault}
+use Rattle.ring_survey.specs.Extent.{longitudes, latitudes, least}
+use Rattle.ring_survey.specs.Faults.{first_fault}
 use Rattle.cell_split.specs.declared.cell.Cell.{Cell}
 use Rattle.cell_split.specs.declared.cell.Task.{Task}
 use Rattle.cell_split.specs.declared.verdict.Entry.{Entry}

@@ -8,7 +8,7 @@ use Rattle.chosen_sun.specs.Suns.{grid_sun_of}
 use Rattle.method_table.specs.Row.{Row}
 use Rattle.plane_edges.specs.declared.points.Point.{Point}
 use Rattle.plane_edges.specs.Plane.{Place}
-use Rattle.region.specs.Rings.{Polygon}
+use Rattle.ring_survey.specs.Polygons.{Polygon}
 use Rattle.region.specs.Named.{named}
 use Rattle.cell_split.specs.declared.cell.Cell.{Cell}
 use Rattle.cell_split.specs.declared.verdict.Verdict.{Verdict}

@@ -2,8 +2,8 @@
 use Rattle.std.specs.Prelude.{pos, neg_ℤ, ◌+ℤ◌, ◌*ℤ◌, ◌≤ℤ◌, List, All}
 use Rattle.method_table.specs.declared.problem.Problem.{Problem}
 use Rattle.method_table.specs.Row.{Row, row_of}
-use Rattle.region.specs.Extent.{longitudes, latitudes, least, greatest}
-use Rattle.region.specs.Rings.{Polygon}
+use Rattle.ring_survey.specs.Extent.{longitudes, latitudes, least, greatest}
+use Rattle.ring_survey.specs.Polygons.{Polygon}
 use Rattle.cell_split.specs.declared.cell.Cell.{Cell}
 use Rattle.cell_split.specs.Cells.{side}
 

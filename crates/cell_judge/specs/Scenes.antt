@@ -3,7 +3,8 @@ use Rattle.std.specs.Prelude.{ℕ, ◌≤◌, pos, ◌<ℤ◌, List, IsTrue}
 use Rattle.solar_terms.specs.SunLaws.{SunSource}
 use Rattle.method_table.specs.Row.{Row, time_of}
 use Rattle.plane_edges.specs.Plane.{Place, IsIn}
-use Rattle.region.specs.Rings.{Polygon, is_in_district}
+use Rattle.ring_survey.specs.Polygons.{Polygon}
+use Rattle.region.specs.Rings.{is_in_district}
 use Rattle.cell_split.specs.declared.cell.Cell.{Cell}
 use Rattle.cell_split.specs.declared.verdict.Verdict.{Verdict}
 use Rattle.cell_split.specs.declared.verdict.Verdict.TheVariants.{Outside, Proved, Refuted, Split, Open}

@@ -15,7 +15,7 @@ use Rattle.method_table.specs.declared.problem.Side.TheVariants.{Start, End}
 use Rattle.method_table.specs.Row.{Row, row, time_of}
 use Rattle.plane_edges.specs.declared.points.Point.{Point}
 use Rattle.plane_edges.specs.Plane.{Place}
-use Rattle.region.specs.Rings.{Polygon}
+use Rattle.ring_survey.specs.Polygons.{Polygon}
 use Rattle.region.specs.Named.{named}
 use Rattle.cell_split.specs.declared.cell.Cell.{Cell}
 use Rattle.cell_split.specs.declared.verdict.Verdict.{Verdict}

@@ -9,10 +9,10 @@ use Rattle.method_table.specs.declared.problem.Problem.{Problem}
 use Rattle.method_table.specs.Kind.{IsKind}
 use Rattle.method_table.specs.Row.{Row, row_of}
 use Rattle.plane_edges.specs.Plane.{Place}
-use Rattle.region.specs.Rings.{Polygon}
+use Rattle.ring_survey.specs.Polygons.{Polygon}
 use Rattle.region.specs.Named.{named}
 use Rattle.plane_edges.specs.Views.{place_of}
-use Rattle.region.specs.Faults.{first_fault}
+use Rattle.ring_survey.specs.Faults.{first_fault}
 use Rattle.cell_split.specs.declared.cell.Cell.{Cell}
 use Rattle.cell_split.specs.Cells.{IsCell, IsRoot}
 use Rattle.cell_split.specs.Laws.{box_of}

@@ -4,8 +4,8 @@ use Rattle.std.specs.Prelude.{◌≡◌, ℕ, ◌+◌, ◌-◌, ◌*◌, ◌/◌
 use Rattle.std.specs.Option.{option_map}
 use Rattle.std.specs.declared.vec.Vec.{Vec}
 use Rattle.plane_edges.specs.declared.points.Point.{Point}
-use Rattle.region.specs.Extent.{latitudes, longitudes, greatest}
-use Rattle.region.specs.Rings.{Polygon}
+use Rattle.ring_survey.specs.Extent.{latitudes, longitudes, greatest}
+use Rattle.ring_survey.specs.Polygons.{Polygon}
 use Rattle.region.specs.Named.{named}
 use Rattle.plane_edges.specs.Views.{place_of}
 use Rattle.cell_split.specs.declared.cell.Cell.{Cell}

@@ -3,7 +3,7 @@ ghost use Rattle.std.specs.Prelude.{◌≡◌, ◌<◌, IfOk, Some, slice_get};
 ghost use Rattle.chosen_sun.specs.Suns.{grid_sun_of};
 ghost use Rattle.sun_choice.specs.declared.choice.SunChoice.TheVariants.{Usno};
 ghost use Rattle.method_table.specs.Row.{row_of};
-ghost use Rattle.region.specs.Extent.{latitudes, least, longitudes};
+ghost use Rattle.ring_survey.specs.Extent.{latitudes, least, longitudes};
 ghost use Rattle.cell_split.specs.Cells.{IsCell, IsRoot, root_at};
 ghost use Rattle.cell_judge.specs.Limits.{AreInLimits, IsInLimits, IsOver};
 ghost use Rattle.cell_judge.specs.Made.{IsSkyOf};

@@ -9,8 +9,8 @@ use Rattle.order_reader.specs.Words.{member_word}
 use Rattle.order_reader.specs.declared.fault.OrderFault.{OrderFault}
 use Rattle.order_reader.specs.declared.fault.OrderFault.TheVariants.{Json, Missing, Twice, Kind, Range, Geometry, Region}
 use Rattle.order_reader.specs.declared.fault.OrderFault.TheVariants.{NoMemory as OrderNoMemory}
-use Rattle.region.specs.declared.faults.RegionFault.{RegionFault}
-use Rattle.region.specs.declared.faults.RegionFault.TheVariants.{Short, Open, TooMany, TooWide, TooFar, NoPolygon, NoMemory as RegionNoMemory}
+use Rattle.ring_survey.specs.declared.faults.RegionFault.{RegionFault}
+use Rattle.ring_survey.specs.declared.faults.RegionFault.TheVariants.{Short, Open, TooMany, TooWide, TooFar, NoPolygon, NoMemory as RegionNoMemory}
 
 -- places are counted from 0
 unfoldable pub json_detail : JsonFault → List ℕ

@@ -9,7 +9,7 @@ use Rattle.night_portion.specs.Sun.{repeated}
 use Rattle.method_table.specs.declared.problem.Column.{Column}
 use Rattle.method_table.specs.declared.problem.Column.TheVariants.{Asr, Dhuhr, Fajr, FajrEnd, Isha, Maghrib, MaghribEnd}
 use Rattle.method_table.specs.Row.{Row, column_word}
-use Rattle.region.specs.Rings.{Polygon}
+use Rattle.ring_survey.specs.Polygons.{Polygon}
 use Rattle.plane_edges.proofs.Truth.{and_left, and_right, and_true, le_true}
 use Rattle.cell_split.specs.declared.cell.Cell.{Cell}
 use Rattle.cell_split.specs.Cells.{IsRoot}

@@ -24,7 +24,7 @@ use Rattle.order_text.specs.Line.{extras_by, district_text, days_text, height_te
 use Rattle.order_text.specs.LineReading.{ReadsLine}
 use Rattle.order_text.proofs.LineLaws.{lines_are_read_again}
 use Rattle.order_text.proofs.RuleLemmas.{rule_bytes}
-use Rattle.region.specs.Rings.{Position}
+use Rattle.ring_survey.specs.Polygons.{Position}
 use Rattle.year_table.specs.Dates.{date_text, day_of_month, month_of, parts_text, two_digits}
 use Rattle.year_table.specs.Rules.{is_rule_byte}
 use Rattle.year_table.specs.declared.zone.Zone.{Zone}

@@ -8,7 +8,7 @@ use Rattle.sun_choice.specs.declared.choice.SunChoice.{SunChoice}
 use Rattle.chosen_sun.specs.Suns.{grid_sun_of}
 use Rattle.method_table.specs.declared.problem.Problem.{Problem}
 use Rattle.method_table.specs.Row.{Row, row_of}
-use Rattle.region.specs.Rings.{Polygon}
+use Rattle.ring_survey.specs.Polygons.{Polygon}
 use Rattle.cell_split.specs.declared.cell.Cell.{Cell}
 use Rattle.cell_split.specs.declared.cell.Task.{Task}
 use Rattle.cell_split.specs.declared.verdict.Verdict.{Verdict}

@@ -8,18 +8,18 @@ use Rattle.std.proofs.Math.IntN.{*ℤ_comm}
 use Rattle.std.proofs.lemmas.Bool.Decides.{nat_tests}
 use Rattle.std.proofs.lemmas.Int.{clamps, ints, to_z-of_z, to_z_pos}
 use Rattle.order_rule.specs.Asked.{Asked}
-use Rattle.region.specs.Each.{each_of}
+use Rattle.ring_survey.specs.Each.{each_of}
 use Rattle.order_rule.specs.Offsets.{days_from, offsets_of}
 use Rattle.order_rule.specs.Rule.{IsOrder}
 use Rattle.order_text.specs.Line.{order_body}
 use Rattle.order_text.specs.LineReading.{ReadsLine}
 use Rattle.order_text.proofs.LineLaws.{lines_are_read_again}
 use Rattle.order_text.proofs.LineLaws.{line_readings_agree}
-use Rattle.region.specs.Extent.{greatest, is_far, is_wide, least, positions_of}
-use Rattle.region.specs.Faults.{first_fault}
-use Rattle.region.specs.Rings.{Position, Ring, is_closed, last_after}
+use Rattle.ring_survey.specs.Extent.{greatest, is_far, is_wide, least, positions_of}
+use Rattle.ring_survey.specs.Faults.{first_fault}
+use Rattle.ring_survey.specs.Polygons.{Position, Ring, is_closed, last_after}
 use Rattle.plane_edges.proofs.Products.{times_mono}
-use Rattle.region.proofs.Reach.{AllIn}
+use Rattle.ring_survey.proofs.Reach.{AllIn}
 use Rattle.plane_edges.proofs.Truth.{and_true, le_true, lt_false}
 use Rattle.year_table.specs.Zones.{day_offset}
 use Rattle.year_table.specs.declared.zone.Zone.TheVariants.{Fixed}

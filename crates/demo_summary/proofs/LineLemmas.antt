@@ -2,7 +2,7 @@
 use Rattle.std.proofs.Common.{◌≡◌, ◌∙◌, ap, sym, ℕ, List, [], ◌∷◌, ◌++◌, codes, append_assoc, append-nil}
 use Rattle.order_text.specs.Line.{body_text, district_text, items_text, more_text, order_body, position_text, span_text, words_text}
 use Rattle.order_text.proofs.LineLemmas.{and_then}
-use Rattle.region.specs.Rings.{Ring}
+use Rattle.ring_survey.specs.Polygons.{Ring}
 use Rattle.year_table.specs.declared.zone.Zone.TheVariants.{Fixed}
 use Rattle.demo_summary.specs.Demo.{demo_asked, demo_asr, demo_from, demo_method, demo_offset, demo_ring}
 

@@ -8,7 +8,8 @@ use Rattle.std.proofs.lemmas.List.Folds.{list_any-append}
 use Rattle.solar_terms.specs.SunLaws.{SunSource}
 use Rattle.method_table.specs.Row.{Row}
 use Rattle.plane_edges.specs.Plane.{Place}
-use Rattle.region.specs.Rings.{Polygon, is_in_district, is_in_polygon}
+use Rattle.ring_survey.specs.Polygons.{Polygon}
+use Rattle.region.specs.Rings.{is_in_district, is_in_polygon}
 use Rattle.cell_split.specs.declared.cell.Cell.{Cell}
 use Rattle.cell_split.specs.declared.verdict.Entry.{Entry}
 use Rattle.cell_split.specs.declared.verdict.Entry.TheVariants.{Minute, Whole, Never, Open}

@@ -3,7 +3,7 @@ use Rattle.std.specs.Prelude.{◌≡◌, List, All, flat_map, map}
 use Rattle.solar_terms.specs.SunLaws.{SunSource, IsSunSource}
 use Rattle.method_table.specs.Kind.{IsKind}
 use Rattle.method_table.specs.Row.{Row}
-use Rattle.region.specs.Rings.{Polygon}
+use Rattle.ring_survey.specs.Polygons.{Polygon}
 use Rattle.cell_split.specs.declared.cell.Cell.{Cell}
 use Rattle.cell_split.specs.declared.verdict.Entry.{Entry}
 use Rattle.cell_judge.specs.RightEntries.{IsRight, IsDecided}

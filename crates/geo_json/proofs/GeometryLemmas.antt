@@ -4,8 +4,8 @@ use Rattle.std.specs.List.{slice_get}
 use Rattle.geo_json.specs.Geometry.{Refuses}
 use Rattle.geo_json.specs.declared.positions.GeometryFault.{GeometryFault}
 use Rattle.geo_json.specs.declared.positions.GeometryFault.TheVariants.{NotGeometry, NoMemory}
-use Rattle.region.specs.Each.{each_of}
-use Rattle.region.proofs.EachLemmas.{with_front, each_more, each_none, each_end}
+use Rattle.ring_survey.specs.Each.{each_of}
+use Rattle.ring_survey.proofs.EachLemmas.{with_front, each_more, each_none, each_end}
 
 -- the items from a place on
 pub drop_at : {A : Type 0} → (xs : List A) (i : ℕ) (x : A) → slice_get xs i ≡ Some x → drop i xs ≡ x ∷ drop (i + 1) xs

@@ -10,8 +10,8 @@ use Rattle.geo_json.specs.declared.positions.Notation.{Notation}
 use Rattle.geo_json.specs.declared.positions.Notation.TheVariants.{Degrees, Microdegrees}
 use Rattle.geo_json.specs.declared.positions.GeometryFault.{GeometryFault}
 use Rattle.geo_json.specs.declared.positions.GeometryFault.TheVariants.{NotGeometry, NoMemory}
-use Rattle.region.specs.Each.{each_of}
-use Rattle.region.specs.Rings.{Position, Ring, Polygon}
+use Rattle.ring_survey.specs.Each.{each_of}
+use Rattle.ring_survey.specs.Polygons.{Position, Ring, Polygon}
 
 -- what was found, as view sees it, is what is to be read, unless memory ran out
 abbrev pub Refuses : {Y : Type 0} → GeometryFault → Option Y → Type 0

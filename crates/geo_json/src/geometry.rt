@@ -3,7 +3,7 @@ ghost use Rattle.std.specs.Prelude.{◌≡◌, option_map, option_and_then, code
 ghost use Rattle.exact_json.specs.View.{tree_of, items_of, entries_of};
 ghost use Rattle.geo_json.specs.Lookup.{object_in, find_member};
 ghost use Rattle.geo_json.specs.Geometry.{Answers, form_named, form_word, form_in, features_list, geometry_of, has_doubles, is_again, line_district_of, member_in, feature_in, only_feature, only_item, one_polygon_in, shape_in};
-ghost use Rattle.region.specs.Vectors.{polygons_in};
+ghost use Rattle.ring_survey.specs.Vectors.{polygons_in};
 
 use crate::lookup::{Found, find_member, list_in, object_in, text_in};
 use crate::positions::{GeometryFault, Notation, multi_polygon_in, multi_polygon_of, polygon_in};

@@ -1,7 +1,7 @@
 // The judge of the sky under the sun of Meeus.
 ghost use Rattle.std.specs.Prelude.{◌≡◌, ◌<◌, IfOk, Some, slice_get};
 ghost use Rattle.sun_choice.specs.declared.choice.SunChoice.TheVariants.{Meeus};
-ghost use Rattle.region.specs.Extent.{latitudes, least, longitudes};
+ghost use Rattle.ring_survey.specs.Extent.{latitudes, least, longitudes};
 ghost use Rattle.cell_split.specs.Cells.{IsRoot, root_at};
 ghost use Rattle.cell_judge.specs.Limits.{AreInLimits, IsOver};
 ghost use Rattle.cell_judge.specs.Made.{IsSkyOf};

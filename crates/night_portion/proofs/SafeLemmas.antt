@@ -16,7 +16,7 @@ use Rattle.method_table.specs.Row.{Row, minute_at, minute_of, time_of}
 use Rattle.night_rule.specs.declared.rule.NightRule.{NightRule}
 use Rattle.night_rule.specs.declared.rule.NightRule.TheVariants.{Half, Seventh, ByAngle}
 use Rattle.plane_edges.specs.Plane.{Place}
-use Rattle.region.specs.Rings.{Polygon}
+use Rattle.ring_survey.specs.Polygons.{Polygon}
 use Rattle.plane_edges.proofs.Products.{times_mono}
 use Rattle.cell_split.specs.declared.cell.Cell.{Cell}
 use Rattle.cell_split.specs.declared.verdict.Entry.{Entry}

@@ -5,7 +5,7 @@ use Rattle.method_table.specs.declared.method.Asr.{Asr}
 use Rattle.method_table.specs.declared.method.Method.{Method}
 use Rattle.method_table.specs.Table.{rows}
 use Rattle.night_rule.specs.declared.rule.NightRule.{NightRule}
-use Rattle.region.specs.Rings.{Polygon}
+use Rattle.ring_survey.specs.Polygons.{Polygon}
 use Rattle.cell_split.specs.declared.cell.Cell.{Cell}
 use Rattle.cell_split.specs.declared.verdict.Entry.{Entry}
 use Rattle.cell_judge.specs.DayLaws.{IsDay}

@@ -7,7 +7,7 @@ use Rattle.method_table.specs.declared.problem.Side.TheVariants.{Start}
 use Rattle.method_table.specs.Row.{Row}
 use Rattle.night_rule.specs.declared.rule.NightRule.{NightRule}
 use Rattle.plane_edges.specs.Plane.{Place}
-use Rattle.region.specs.Rings.{Polygon}
+use Rattle.ring_survey.specs.Polygons.{Polygon}
 use Rattle.cell_split.specs.declared.cell.Cell.{Cell}
 use Rattle.cell_split.specs.declared.verdict.Entry.{Entry}
 use Rattle.cell_judge.specs.Conditions.{Holds}

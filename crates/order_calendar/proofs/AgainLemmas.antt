@@ -30,7 +30,7 @@ use Rattle.method_table.specs.Row.{Row, row}
 use Rattle.method_table.specs.Table.{base_of, isha_shift}
 use Rattle.order_rule.proofs.OffsetLemmas.{offset_in_range}
 use Rattle.order_rule.specs.Asked.{Asked}
-use Rattle.region.specs.Each.{each_of}
+use Rattle.ring_survey.specs.Each.{each_of}
 use Rattle.order_rule.specs.Late.{has_day, interval_on}
 use Rattle.order_rule.specs.Offsets.{IsOffset, first_day, is_zone, last_day, offsets_of}
 use Rattle.order_rule.specs.Rule.{IsOrder}

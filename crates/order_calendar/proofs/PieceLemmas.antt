@@ -21,7 +21,7 @@ use Rattle.order_table.specs.declared.day.Day.{Day}
 use Rattle.order_table.specs.declared.ready.Ready.{Ready}
 use Rattle.order_table.proofs.TableLemmas.{ready_is}
 use Rattle.order_table.proofs.TextLemmas.{entries_of_zip}
-use Rattle.region.specs.Rings.{Polygon}
+use Rattle.ring_survey.specs.Polygons.{Polygon}
 use Rattle.sun_choice.specs.declared.choice.SunChoice.{SunChoice}
 use Rattle.worker_table.specs.Entries.{entries_on}
 use Rattle.order_calendar.specs.Calendar.{calendar_of, found_on, sheet_of}

@@ -6,7 +6,7 @@ use Rattle.ical_text.specs.declared.event.Event.{Event}
 use Rattle.order_rule.specs.Asked.{Asked}
 use Rattle.order_table.specs.Table.{DayTable}
 use Rattle.order_table.specs.Trees.{table_of_trees}
-use Rattle.region.specs.Extent.{latitudes, least, longitudes}
+use Rattle.ring_survey.specs.Extent.{latitudes, least, longitudes}
 use Rattle.year_table.specs.declared.zone.Zone.{Zone}
 use Rattle.year_table.specs.declared.zone.Zone.TheVariants.{Fixed, Rule}
 

@@ -26,7 +26,7 @@ use Rattle.order_table.specs.declared.ready.Ready.{Ready}
 use Rattle.order_table.proofs.TableLemmas.{count_is}
 use Rattle.order_table.proofs.TextLemmas.{undecided_is}
 use Rattle.plane_edges.specs.declared.points.Point.{Point}
-use Rattle.region.specs.Rings.{Polygon}
+use Rattle.ring_survey.specs.Polygons.{Polygon}
 use Rattle.serde_json.specs.Written.{compact_text}
 use Rattle.year_table.specs.Dates.{date_text}
 use Rattle.sun_choice.specs.declared.choice.SunChoice.{SunChoice}

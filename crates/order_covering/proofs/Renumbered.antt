@@ -10,7 +10,7 @@ use Rattle.night_portion.specs.Sun.{repeated}
 use Rattle.order_covering.specs.Covering.{night_content}
 use Rattle.order_table.specs.Trees.{entry_at}
 use Rattle.method_table.specs.Row.{Row}
-use Rattle.region.specs.Rings.{Polygon}
+use Rattle.ring_survey.specs.Polygons.{Polygon}
 use Rattle.cell_split.specs.declared.cell.Cell.{Cell}
 use Rattle.cell_split.specs.declared.verdict.Leaf.{Leaf}
 use Rattle.cell_split.specs.declared.verdict.Verdict.{Verdict}

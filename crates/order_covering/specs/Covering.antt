@@ -17,7 +17,7 @@ use Rattle.order_text.specs.Line.{order_line}
 use Rattle.order_table.specs.Days.{DayRows, NightRows, days_of}
 use Rattle.order_table.specs.Trees.{columns, night_columns, root_over}
 use Rattle.plane_edges.specs.declared.points.Point.{Point}
-use Rattle.region.specs.Rings.{Polygon}
+use Rattle.ring_survey.specs.Polygons.{Polygon}
 use Rattle.serde_json.specs.Written.{compact_text}
 use Rattle.year_table.specs.Dates.{date_text}
 use Rattle.sun_choice.specs.declared.choice.SunChoice.{SunChoice}

@@ -13,7 +13,7 @@ use Rattle.order_table.specs.Table.{is_undecided}
 use Rattle.order_table.specs.Trees.{columns, entry_at}
 use Rattle.order_table.specs.declared.day.Day.{Day}
 use Rattle.order_table.specs.declared.day.Night.{Night}
-use Rattle.region.specs.Rings.{Polygon}
+use Rattle.ring_survey.specs.Polygons.{Polygon}
 use Rattle.serde_json.specs.Written.{compact_text}
 use Rattle.year_table.specs.Dates.{date_text}
 use Rattle.sun_choice.specs.declared.choice.SunChoice.{SunChoice}

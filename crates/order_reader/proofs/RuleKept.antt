@@ -26,14 +26,14 @@ use Rattle.order_reader.specs.declared.fault.OrderFault.{OrderFault}
 use Rattle.order_reader.specs.declared.fault.OrderFault.TheVariants.{Kind, Range, Geometry}
 use Rattle.order_rule.proofs.SignedLemmas.{between, le_from_test}
 use Rattle.order_rule.specs.Asked.{Asked}
-use Rattle.region.specs.Each.{each_of}
+use Rattle.ring_survey.specs.Each.{each_of}
 use Rattle.order_rule.specs.Late.{may_be_late}
 use Rattle.order_rule.specs.Offsets.{first_day, is_day, is_zone, last_day, offsets_of}
 use Rattle.order_rule.specs.Rule.{IsOrder}
-use Rattle.region.specs.Faults.{first_fault}
-use Rattle.region.specs.Rings.{Polygon}
+use Rattle.ring_survey.specs.Faults.{first_fault}
+use Rattle.ring_survey.specs.Polygons.{Polygon}
 use Rattle.plane_edges.proofs.Truth.{map_some}
-use Rattle.region.specs.declared.faults.RegionFault.{RegionFault}
+use Rattle.ring_survey.specs.declared.faults.RegionFault.{RegionFault}
 use Rattle.year_table.specs.Dates.{civil_day}
 use Rattle.year_table.specs.Rules.{is_rule}
 use Rattle.sun_choice.specs.declared.choice.SunChoice.{SunChoice}

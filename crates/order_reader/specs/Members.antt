@@ -13,7 +13,7 @@ use Rattle.order_reader.specs.Dates.{day_of, ymd_in}
 use Rattle.order_reader.specs.declared.date.Ymd.{Ymd}
 use Rattle.order_reader.specs.Gives.{◌>>=◌}
 use Rattle.geo_json.specs.Lookup.{list_in, number_in, text_in}
-use Rattle.region.specs.Each.{each_of}
+use Rattle.ring_survey.specs.Each.{each_of}
 use Rattle.order_rule.specs.Late.{may_be_late}
 use Rattle.order_rule.specs.Offsets.{last_day, offsets_of}
 use Rattle.exact_json.specs.Micro.{whole_of}

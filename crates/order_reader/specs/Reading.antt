@@ -16,9 +16,9 @@ use Rattle.order_reader.specs.declared.fault.Member.TheVariants as members
 use Rattle.order_reader.specs.declared.fault.OrderFault.{OrderFault}
 use Rattle.order_reader.specs.declared.fault.OrderFault.TheVariants.{Missing, Twice, Kind, Geometry, Region}
 use Rattle.order_rule.specs.Asked.{Asked}
-use Rattle.region.specs.Faults.{first_fault}
-use Rattle.region.specs.Rings.{Polygon}
-use Rattle.region.specs.declared.faults.RegionFault.{RegionFault}
+use Rattle.ring_survey.specs.Faults.{first_fault}
+use Rattle.ring_survey.specs.Polygons.{Polygon}
+use Rattle.ring_survey.specs.declared.faults.RegionFault.{RegionFault}
 use Rattle.sun_choice.specs.declared.choice.SunChoice.{SunChoice}
 use Rattle.sun_choice.specs.declared.choice.SunChoice.TheVariants.{Usno}
 use Rattle.year_table.specs.declared.zone.Zone.{Zone}

@@ -3,7 +3,7 @@ ghost use Rattle.std.specs.Prelude.{◌≡◌, true, IfOk, option_map};
 ghost use Rattle.exact_json.specs.View.{items_of, tree_of};
 ghost use Rattle.order_reader.specs.Gives.{Gives};
 ghost use Rattle.order_reader.specs.Members.{late_in, pair_in, range_of};
-ghost use Rattle.region.specs.Each.{each_of};
+ghost use Rattle.ring_survey.specs.Each.{each_of};
 ghost use Rattle.order_rule.specs.Late.{may_be_late};
 
 use crate::date::{Ymd, day_of, ymd_in};

@@ -7,7 +7,7 @@ ghost use Rattle.order_reader.specs.Parts.{basis_view, extras_view};
 ghost use Rattle.order_reader.specs.Reading.{asked_by, basis_of, district_in, district_of, extras_of, height_of, late_of, night_of, order_in, order_of, sun_of};
 ghost use Rattle.order_rule.specs.Asked.{asked_of};
 ghost use Rattle.order_rule.specs.Late.{may_be_late};
-ghost use Rattle.region.specs.Vectors.{polygons_in};
+ghost use Rattle.ring_survey.specs.Vectors.{polygons_in};
 ghost use Rattle.order_reader.specs.Reads.{ReadsOrder, json_refusal};
 
 use crate::fault::{Member, OrderFault};

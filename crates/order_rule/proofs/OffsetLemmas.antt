@@ -4,9 +4,9 @@ use Rattle.std.specs.Prelude.{All, int_le, int_div, option_map, option_and_then}
 use Rattle.std.proofs.lemmas.Int.{ints, to_z-of_z}
 use Rattle.std.proofs.lemmas.List.Elements.{All-nil, All-cons}
 use Rattle.std.proofs.lemmas.Option.{cond_some, option_and_then_some}
-use Rattle.region.proofs.EachLemmas.{each_end, each_more, each_none, with_front}
+use Rattle.ring_survey.proofs.EachLemmas.{each_end, each_more, each_none, with_front}
 use Rattle.order_rule.proofs.SignedLemmas.{between}
-use Rattle.region.specs.Each.{each_of}
+use Rattle.ring_survey.specs.Each.{each_of}
 use Rattle.order_rule.specs.Offsets.{IsOffset, days_from}
 use Rattle.year_table.specs.Rules.{in_minutes, noon_seconds}
 use Rattle.jiff_tz.specs.PosixReader.{read_whole}

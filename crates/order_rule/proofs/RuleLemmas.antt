@@ -3,7 +3,7 @@ use Rattle.std.specs.Prelude.{◌≡◌, None}
 use Rattle.order_rule.specs.Asked.{asked_of}
 use Rattle.order_rule.specs.Rule.{IsOrder}
 use Rattle.order_rule.specs.declared.order.Order.{Order}
-use Rattle.region.specs.Faults.{first_fault}
+use Rattle.ring_survey.specs.Faults.{first_fault}
 
 pub is_order : (o : Order) → first_fault o.district ≡ None → IsOrder (asked_of o)
 is_order o sound = record {

@@ -3,7 +3,7 @@ use Rattle.std.specs.Prelude.{◌≡◌, ◌≤◌, true, pos, ◌+ℤ◌, ◌�
 use Rattle.order_rule.specs.Asked.{Asked}
 use Rattle.order_rule.specs.Late.{may_be_late}
 use Rattle.order_rule.specs.Offsets.{first_day, is_zone, last_day, offsets_of}
-use Rattle.region.specs.Faults.{first_fault}
+use Rattle.ring_survey.specs.Faults.{first_fault}
 
 pub record IsOrder (o : Asked) : Type 0 where
   pub not_early : first_day ≤ℤ o.from_day

@@ -7,11 +7,11 @@ use Rattle.std.proofs.lemmas.List.{drop_more, length-map, map-append}
 use Rattle.std.proofs.lemmas.Option.{get_or_from_slice_get}
 use Rattle.method_table.specs.Row.{Row, row_of}
 use Rattle.method_table.specs.Table.{noon_of, rows}
-use Rattle.region.specs.Rings.{Polygon}
-use Rattle.region.specs.Extent.{longitudes, least, greatest, positions_of}
-use Rattle.region.specs.Faults.{first_fault}
-use Rattle.region.proofs.Reach.{AllIn}
-use Rattle.region.proofs.Sound.{sound}
+use Rattle.ring_survey.specs.Polygons.{Polygon}
+use Rattle.ring_survey.specs.Extent.{longitudes, least, greatest, positions_of}
+use Rattle.ring_survey.specs.Faults.{first_fault}
+use Rattle.ring_survey.proofs.Reach.{AllIn}
+use Rattle.ring_survey.proofs.Sound.{sound}
 use Rattle.cell_split.specs.Cells.{IsRoot}
 use Rattle.cell_judge.specs.DayLaws.{IsDay}
 use Rattle.cell_judge.proofs.DayLaws.{days_are_in_limits}

@@ -20,7 +20,7 @@ use Rattle.night_portion.specs.SafeNights.{AreStarts, IsSafeNight}
 use Rattle.night_portion.specs.Sun.{repeated}
 use Rattle.night_portion.proofs.SafeLemmas.{nights_are_safe}
 use Rattle.night_rule.specs.declared.rule.NightRule.{NightRule}
-use Rattle.region.specs.Rings.{Polygon}
+use Rattle.ring_survey.specs.Polygons.{Polygon}
 use Rattle.sun_choice.specs.declared.choice.SunChoice.{SunChoice}
 use Rattle.order_table.specs.RightTable.{AreRightEntries, IsRightEntry, IsRightNight, scene_of}
 use Rattle.order_table.specs.Table.{night_in}

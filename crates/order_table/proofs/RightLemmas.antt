@@ -9,8 +9,8 @@ use Rattle.method_table.specs.declared.method.Method.{Method}
 use Rattle.night_portion.specs.Sun.{night_rows}
 use Rattle.night_portion.proofs.DayLemmas.{days_have_nights, sun_has_rows}
 use Rattle.night_rule.specs.declared.rule.NightRule.{NightRule}
-use Rattle.region.specs.Rings.{Polygon}
-use Rattle.region.specs.Faults.{first_fault}
+use Rattle.ring_survey.specs.Polygons.{Polygon}
+use Rattle.ring_survey.specs.Faults.{first_fault}
 use Rattle.cell_split.specs.declared.cell.Cell.{Cell}
 use Rattle.cell_split.specs.declared.verdict.Entry.{Entry}
 use Rattle.cell_split.specs.Cells.{IsRoot}
@@ -21,7 +21,7 @@ use Rattle.cell_judge.specs.Skies.{row_at, sky_content}
 use Rattle.cell_judge.proofs.DayLaws.{days_have_rows}
 use Rattle.cell_judge.proofs.EntryLaws.{lies_in_root, one_decided_entry_is_right, true_verdicts_make_right_entries}
 use Rattle.cell_judge.proofs.SkyLaws.{skies_tell_the_truth}
-use Rattle.region.proofs.EachLemmas.{each_length}
+use Rattle.ring_survey.proofs.EachLemmas.{each_length}
 use Rattle.order_rule.proofs.OffsetLemmas.{days_length, offsets_in_range}
 use Rattle.order_rule.specs.Asked.{Asked}
 use Rattle.order_rule.specs.Late.{interval_on}

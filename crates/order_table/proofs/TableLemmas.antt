@@ -9,7 +9,7 @@ use Rattle.cell_split.specs.declared.verdict.Entry.{Entry}
 use Rattle.cell_judge.specs.Skies.{sky_content}
 use Rattle.method_table.specs.Row.{Row}
 use Rattle.order_rule.specs.Asked.{Asked}
-use Rattle.region.specs.Rings.{Polygon}
+use Rattle.ring_survey.specs.Polygons.{Polygon}
 use Rattle.sun_choice.specs.declared.choice.SunChoice.{SunChoice}
 use Rattle.order_table.specs.Days.{days_of}
 use Rattle.order_table.specs.Made.{day_of, searched}

@@ -7,7 +7,7 @@ use Rattle.night_portion.specs.Sun.{night_rows}
 use Rattle.night_rule.specs.declared.rule.NightRule.{NightRule}
 use Rattle.order_rule.specs.Asked.{Asked}
 use Rattle.order_rule.specs.Late.{interval_on}
-use Rattle.region.specs.Extent.{greatest, least, longitudes}
+use Rattle.ring_survey.specs.Extent.{greatest, least, longitudes}
 
 -- the rows of sunrise and sunset, and what the night's minutes are made by
 pub record NightRows : Type 0 where

@@ -9,7 +9,7 @@ use Rattle.chosen_sun.specs.Suns.{exact_sun_of}
 use Rattle.method_table.specs.Row.{Row}
 use Rattle.night_portion.specs.SafeNights.{IsSafeNight}
 use Rattle.order_rule.specs.Asked.{Asked}
-use Rattle.region.specs.Rings.{Polygon}
+use Rattle.ring_survey.specs.Polygons.{Polygon}
 use Rattle.sun_choice.specs.declared.choice.SunChoice.{SunChoice}
 use Rattle.order_table.specs.Days.{days_of}
 use Rattle.order_table.specs.Table.{DayTable, NightTable, night_in, rows_in}

@@ -7,7 +7,7 @@ use Rattle.method_table.specs.Row.{Row}
 use Rattle.night_portion.specs.Minutes.{Night, fajr_minute, isha_minute, night_of}
 use Rattle.night_rule.specs.declared.rule.NightRule.{NightRule}
 use Rattle.order_rule.specs.Asked.{Asked}
-use Rattle.region.specs.Extent.{positions_of}
+use Rattle.ring_survey.specs.Extent.{positions_of}
 use Rattle.year_table.specs.Dates.{date_text}
 use Rattle.year_table.specs.Entries.{entry_text}
 use Rattle.year_table.specs.Lines.{end_line, night_line, open_line, table_head}

@@ -15,7 +15,7 @@ use Rattle.order_reader.specs.Reading.{Basis, Extras, basis_of, needed}
 use Rattle.order_reader.specs.declared.fault.Member.TheVariants as members
 use Rattle.order_reader.specs.declared.fault.OrderFault.{OrderFault}
 use Rattle.order_rule.specs.Asked.{Asked}
-use Rattle.region.specs.Each.{each_of}
+use Rattle.ring_survey.specs.Each.{each_of}
 use Rattle.order_rule.specs.Late.{is_empty}
 use Rattle.order_rule.specs.Offsets.{first_day, is_day, last_day}
 use Rattle.order_rule.specs.Rule.{IsOrder}
@@ -27,8 +27,8 @@ use Rattle.order_text.proofs.SpelledLemmas.{entry_of}
 use Rattle.order_text.specs.Line.{is_plain, version_by}
 use Rattle.order_text.specs.LineReading.{line_district, line_extras_of, line_order_in, line_order_of, version_in}
 use Rattle.plane_edges.proofs.Truth.{le_true}
-use Rattle.region.specs.Faults.{first_fault}
-use Rattle.region.specs.Rings.{Polygon}
+use Rattle.ring_survey.specs.Faults.{first_fault}
+use Rattle.ring_survey.specs.Polygons.{Polygon}
 use Rattle.sun_choice.specs.declared.choice.SunChoice.{SunChoice}
 use Rattle.sun_choice.specs.declared.choice.SunChoice.TheVariants.{Usno, Meeus}
 

@@ -26,7 +26,7 @@ use Rattle.order_text.proofs.RuleLemmas.{IsNear, fixed_near, near_district, rule
 use Rattle.order_text.proofs.SpelledLemmas.{Field, IsField, Spells, entry_of, field_text, no_blanks, object_text, quoted, spells_list, spells_number, spells_object, spells_text}
 use Rattle.order_text.proofs.VersionLemmas.{at_most_four}
 use Rattle.order_text.specs.Line.{body_text, district_text, height_text, is_plain, list_text, more_text, night_text, order_body, polygon_text, position_text, range_text, ring_text, second_text, span_text, sun_text, third_text, version_by, words_by, words_text, zone_text}
-use Rattle.region.specs.Rings.{Position, Ring, Polygon}
+use Rattle.ring_survey.specs.Polygons.{Position, Ring, Polygon}
 use Rattle.sun_choice.specs.Choice.{sun_word}
 use Rattle.sun_choice.specs.declared.choice.SunChoice.{SunChoice}
 use Rattle.sun_choice.specs.declared.choice.SunChoice.TheVariants.{Usno, Meeus}

@@ -9,7 +9,7 @@ use Rattle.order_rule.specs.Asked.{Asked}
 use Rattle.order_text.specs.Line.{district_text, is_plain, list_text, range_text, version_by, zone_text}
 use Rattle.order_text.proofs.NumberLemmas.{whole_decimal}
 use Rattle.order_text.proofs.SpelledLemmas.{Field, entry_of, quoted}
-use Rattle.region.specs.Rings.{Position, Ring, Polygon}
+use Rattle.ring_survey.specs.Polygons.{Position, Ring, Polygon}
 use Rattle.sun_choice.specs.Choice.{sun_word}
 use Rattle.sun_choice.specs.declared.choice.SunChoice.{SunChoice}
 use Rattle.sun_choice.specs.declared.choice.SunChoice.TheVariants.{Usno, Meeus}

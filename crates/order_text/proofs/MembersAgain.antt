@@ -19,7 +19,7 @@ use Rattle.geo_json.proofs.LookupLemmas.{items_in_before}
 use Rattle.order_reader.specs.Members.{asr_in, days_in, from_in, height_in, late_in, method_in, offsets_in, pair_in, range_of, sun_in, whole_within, zone_in}
 use Rattle.order_reader.specs.Reading.{rule_in}
 use Rattle.order_rule.proofs.OffsetLemmas.{offset_in_range}
-use Rattle.region.specs.Each.{each_of}
+use Rattle.ring_survey.specs.Each.{each_of}
 use Rattle.order_rule.specs.Late.{is_empty, is_makkah, is_range, may_be_late}
 use Rattle.order_rule.specs.Offsets.{IsOffset, days_from, is_day, is_zone, last_day, offsets_of}
 use Rattle.order_text.proofs.DateTexts.{day_read, day_text_read}

@@ -7,15 +7,15 @@ use Rattle.std.proofs.lemmas.List.Elements.{All-nil, All-cons}
 use Rattle.std.proofs.lemmas.List.Folds.{list_any-append}
 use Rattle.std.specs.List.{flat_map, list_all, list_any}
 use Rattle.std.specs.Option.{option_or}
-use Rattle.region.specs.Each.{each_of}
+use Rattle.ring_survey.specs.Each.{each_of}
 use Rattle.order_rule.specs.Offsets.{days_from, offsets_of}
 use Rattle.jiff_tz.specs.PosixReader.{read_whole}
-use Rattle.region.specs.Extent.{is_far, is_wide, latitudes, longitudes, positions_of}
-use Rattle.region.specs.Faults.{first_fault, lacks_ring, ring_fault}
-use Rattle.region.specs.Rings.{Position, Ring, Polygon}
+use Rattle.ring_survey.specs.Extent.{is_far, is_wide, latitudes, longitudes, positions_of}
+use Rattle.ring_survey.specs.Faults.{first_fault, lacks_ring, ring_fault}
+use Rattle.ring_survey.specs.Polygons.{Position, Ring, Polygon}
 use Rattle.plane_edges.proofs.Truth.{neither}
-use Rattle.region.specs.declared.faults.RegionFault.{RegionFault}
-use Rattle.region.specs.declared.faults.RegionFault.TheVariants.{TooFar, TooMany, TooWide, NoPolygon}
+use Rattle.ring_survey.specs.declared.faults.RegionFault.{RegionFault}
+use Rattle.ring_survey.specs.declared.faults.RegionFault.TheVariants.{TooFar, TooMany, TooWide, NoPolygon}
 use Rattle.year_table.specs.Rules.{is_plain, is_rule, is_rule_byte}
 use Rattle.year_table.specs.Zones.{day_offset}
 use Rattle.year_table.specs.declared.zone.Zone.{Zone}

@@ -21,7 +21,7 @@ use Rattle.order_reader.specs.declared.fault.OrderFault.TheVariants.{Kind, Range
 use Rattle.order_text.specs.Line.{is_plain, version_by, version_of}
 use Rattle.order_text.specs.LineLaws.{VersionsAreLeast}
 use Rattle.order_text.specs.LineReading.{line_district, line_extras_of, line_order_in, line_order_of, since, version_in}
-use Rattle.region.specs.Rings.{Polygon}
+use Rattle.ring_survey.specs.Polygons.{Polygon}
 use Rattle.sun_choice.specs.declared.choice.SunChoice.{SunChoice}
 use Rattle.sun_choice.specs.declared.choice.SunChoice.TheVariants.{Usno, Meeus}
 

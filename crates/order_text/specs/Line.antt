@@ -8,7 +8,7 @@ use Rattle.night_rule.specs.Rule.{night_word}
 use Rattle.night_rule.specs.declared.rule.NightRule.{NightRule}
 use Rattle.order_rule.specs.Asked.{Asked}
 use Rattle.order_rule.specs.Late.{is_empty}
-use Rattle.region.specs.Rings.{Position, Ring, Polygon}
+use Rattle.ring_survey.specs.Polygons.{Position, Ring, Polygon}
 use Rattle.sun_choice.specs.Choice.{sun_word}
 use Rattle.sun_choice.specs.declared.choice.SunChoice.{SunChoice}
 use Rattle.sun_choice.specs.declared.choice.SunChoice.TheVariants.{Usno, Meeus}

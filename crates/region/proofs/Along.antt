@@ -10,8 +10,9 @@ use Rattle.std.specs.List.{list_any}
 use Rattle.std.specs.Option.{option_or}
 use Rattle.std.proofs.lemmas.List.Folds.{list_any-append}
 use Rattle.plane_edges.specs.Plane.{Place, Segment, Box, is_on, crosses, xor}
-use Rattle.region.specs.Rings.{Position, Ring, Polygon, edges_from, ring_edges, polygon_edges}
-use Rattle.region.specs.Extent.{is_far, is_step, is_compact_from}
+use Rattle.ring_survey.specs.Polygons.{Position, Ring, Polygon}
+use Rattle.region.specs.Rings.{edges_from, ring_edges, polygon_edges}
+use Rattle.ring_survey.specs.Extent.{is_far, is_step, is_compact_from}
 use Rattle.plane_edges.specs.EdgePoints.{first_point}
 use Rattle.plane_edges.proofs.Truth.{or_assoc, and_left, and_right, not_false, neither}
 use Rattle.region.proofs.Odd.{odd_by, odd_by-append, xor_assoc}
@@ -122,11 +123,6 @@ first_later box xs ys h = sym (first_point-append box xs ys ∙ ap (λ o. option
 pub first_here : (box : Box) (xs ys : List Segment) (p : Place) → Some p ≡ first_point box xs
     → Some p ≡ first_point box (xs ++ ys)
 first_here box xs ys p h = sym (first_point-append box xs ys ∙ ap (λ o. option_or o (first_point box ys)) (sym h))
-
--- what is left begins with the element at hand
-pub next_left : {A : Type 0} (xs : List A) (i : ℕ) (x : A) → i < length xs → x ≡ get_or xs i x
-    → drop i xs ≡ x ∷ drop (i + 1) xs
-next_left xs i x h e = drop-cons xs i x h ∙ rw (add-one) (ap (λ y. y ∷ drop (suc i) xs) (sym e))
 
 pub short_step : (p : Position) (all : Ring) (i : ℕ) → i < length all → is_compact_from p (drop i all) ≡ true
     → is_step p (get_or all i (pos 0, pos 0)) ≡ true

@@ -8,7 +8,8 @@ use Rattle.std.proofs.lemmas.Int.{ints}
 use Rattle.std.proofs.lemmas.Bool.Decides.{nat_tests}
 use Rattle.std.proofs.lemmas.List.{map-append}
 use Rattle.plane_edges.specs.Plane.{Place, Segment, Box, orientation, is_on, is_above, crosses, xor, IsOrdered}
-use Rattle.region.specs.Rings.{Polygon, polygon_edges, is_within, is_in_district}
+use Rattle.ring_survey.specs.Polygons.{Polygon}
+use Rattle.region.specs.Rings.{polygon_edges, is_within, is_in_district}
 use Rattle.plane_edges.specs.EdgePoints.{edge_point, first_point, corner, misses_latitudes}
 use Rattle.region.specs.Named.{named}
 use Rattle.plane_edges.specs.Views.{segment_of}

@@ -11,7 +11,7 @@ use Rattle.std.proofs.lemmas.List.Elements.{All-cons, All-head, All-tail, All-we
 use Rattle.region.specs.declared.blocks.Block.{Block}
 use Rattle.plane_edges.specs.declared.edges.Edge.{Edge}
 use Rattle.plane_edges.specs.Plane.{Place, Segment, Box, is_on, crosses, xor, IsOrdered}
-use Rattle.region.specs.Rings.{Polygon}
+use Rattle.ring_survey.specs.Polygons.{Polygon}
 use Rattle.plane_edges.specs.EdgePoints.{edge_point, first_point, corner, misses_latitudes, misses_longitudes}
 use Rattle.region.specs.Named.{named}
 use Rattle.region.specs.Strips.{BandView, IsBandOf, numbered, is_in_some, edges_between}

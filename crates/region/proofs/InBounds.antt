@@ -8,15 +8,15 @@ use Rattle.std.proofs.lemmas.Int.{ints, by_lt_z}
 use Rattle.std.proofs.lemmas.Bool.{false≢true}
 use Rattle.std.proofs.lemmas.List.Folds.{list_any-append}
 use Rattle.plane_edges.specs.Plane.{Place, Segment, Box, IsIn, is_on, is_above, crosses, xor}
-use Rattle.region.specs.Rings.{Position, Ring, Polygon, edge_between, edges_from, ring_edges, polygon_edges, last_after, is_closed, is_in_district}
-use Rattle.region.specs.Extent.{longitudes, latitudes, least, greatest, positions_of}
-use Rattle.region.specs.Laws.{are_closed}
+use Rattle.ring_survey.specs.Polygons.{Position, Ring, Polygon, last_after, is_closed, are_closed}
+use Rattle.region.specs.Rings.{edge_between, edges_from, ring_edges, polygon_edges, is_in_district}
+use Rattle.ring_survey.specs.Extent.{longitudes, latitudes, least, greatest, positions_of}
 use Rattle.plane_edges.proofs.Products.{times_mono}
 use Rattle.plane_edges.proofs.Truth.{and_left, and_right, lt_true, lt_false, and_false, false_and}
 use Rattle.region.proofs.Odd.{odd_by, odd_by-append, is_odd-count_by, xor_self, middle_out}
 use Rattle.region.proofs.Wholly.{equal_of_test}
 use Rattle.plane_edges.proofs.Parity.{no_cross_west, cross_east}
-use Rattle.region.proofs.Reach.{AllIn, all_in}
+use Rattle.ring_survey.proofs.Reach.{AllIn, all_in}
 use Rattle.plane_edges.proofs.OffEdge.{above_both, below_both}
 
 -- a position within these ends, in place units

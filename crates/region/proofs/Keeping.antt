@@ -6,8 +6,9 @@ use Rattle.std.proofs.lemmas.List.{map-append, get_or_append_left, get_or_at}
 use Rattle.std.proofs.lemmas.Bool.{cases_lt}
 use Rattle.plane_edges.specs.declared.edges.Edge.{Edge}
 use Rattle.plane_edges.specs.Plane.{Segment}
-use Rattle.region.specs.Rings.{Position, Ring, Polygon, edge_between, edges_from, polygon_edges}
-use Rattle.region.specs.Extent.{is_compact_from}
+use Rattle.ring_survey.specs.Polygons.{Position, Ring, Polygon}
+use Rattle.region.specs.Rings.{edge_between, edges_from, polygon_edges}
+use Rattle.ring_survey.specs.Extent.{is_compact_from}
 use Rattle.plane_edges.specs.Views.{segment_of}
 use Rattle.region.specs.Strips.{StripView, IsStripOf, AreStripsFrom, numbered_edges, reaches, edges_between, numbered, kept, kept_from}
 use Rattle.region.proofs.Along.{short_rest}

@@ -9,9 +9,10 @@ use Rattle.std.specs.List.{list_any, list_all, flat_map}
 use Rattle.std.proofs.lemmas.Int.{ints}
 use Rattle.std.proofs.lemmas.List.Folds.{list_any-append}
 use Rattle.plane_edges.specs.Plane.{Place, Segment, Box, IsIn, is_on, crosses, xor, IsOrdered}
-use Rattle.region.specs.Rings.{Position, Ring, Polygon, edge_between, edges_from, ring_edges, polygon_edges, last_after, is_closed, is_odd, is_in_polygon, is_in_district}
+use Rattle.ring_survey.specs.Polygons.{Position, Ring, Polygon, last_after, is_closed, are_closed}
+use Rattle.region.specs.Rings.{edge_between, edges_from, ring_edges, polygon_edges, is_odd, is_in_polygon, is_in_district}
 use Rattle.plane_edges.specs.EdgePoints.{edge_point, first_point, corner}
-use Rattle.region.specs.Laws.{are_closed, IsWhollyInOrOut, NamesExactly}
+use Rattle.region.specs.Laws.{IsWhollyInOrOut, NamesExactly}
 use Rattle.plane_edges.proofs.Truth.{same, by_same, by_table, and_left, and_right, or_left, or_right, or_cases, or_some, or_none_left, or_none_right}
 use Rattle.region.proofs.Odd.{odd_by, odd_by-append, is_odd-count_by, xor_self, middle_out}
 use Rattle.plane_edges.proofs.Apart.{apart}

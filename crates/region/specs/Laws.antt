@@ -1,13 +1,10 @@
 -- Laws on places, boxes and districts, each the clause of a public function with an empty body.
-use Rattle.std.specs.Prelude.{◌≡◌, Bool, List, IsTrue, IsFalse, MatchOption}
+use Rattle.std.specs.Prelude.{◌≡◌, List, IsTrue, IsFalse, MatchOption}
 use Rattle.std.specs.List.{list_any, list_all}
 use Rattle.plane_edges.specs.Plane.{Place, Box, IsIn, IsOrdered, is_on}
-use Rattle.region.specs.Rings.{Polygon, polygon_edges, is_closed, is_in_polygon, is_in_district}
+use Rattle.ring_survey.specs.Polygons.{Polygon, is_closed, are_closed}
+use Rattle.region.specs.Rings.{polygon_edges, is_in_polygon, is_in_district}
 use Rattle.region.specs.Named.{named}
-
--- every ring ends where it begins
-abbrev pub are_closed : List Polygon → Bool
-are_closed polygons = list_all (list_all is_closed) polygons
 
 -- a box that no edge of a polygon meets is wholly inside the polygon or wholly outside
 abbrev pub IsWhollyInOrOut : Type 0

@@ -1,10 +1,5 @@
 pub mod Rings
-pub mod Extent
 pub mod Named
 pub mod Laws
-pub mod Faults
-pub mod Vectors
-pub mod Bounds
 pub mod Strips
 pub mod Blocks
-pub mod Each

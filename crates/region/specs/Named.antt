@@ -5,7 +5,8 @@ use Rattle.std.specs.Option.{option_or}
 use Rattle.std.specs.List.{flat_map}
 use Rattle.plane_edges.specs.Plane.{Place, Box}
 use Rattle.plane_edges.specs.EdgePoints.{first_point, corner}
-use Rattle.region.specs.Rings.{Polygon, polygon_edges, is_in_district}
+use Rattle.ring_survey.specs.Polygons.{Polygon}
+use Rattle.region.specs.Rings.{polygon_edges, is_in_district}
 
 abbrev pub named : Box → List Polygon → Option Place
 named box polygons =

@@ -1,29 +1,8 @@
--- Polygons as lists of rings, rings as lists of positions (longitude, latitude) in microdegrees,
--- and when a place is in them.
-use Rattle.std.specs.Prelude.{ℤ, pos, ℕ, ◌*ℤ◌, ◌%◌, ◌==◌, Bool, true, ◌&&◌, ◌||◌, List, [], ◌∷◌, count_by}
-use Rattle.std.specs.Ordering.{int_eq}
+-- The edges of rings and polygons, and when a place is in them.
+use Rattle.std.specs.Prelude.{ℤ, pos, ℕ, ◌*ℤ◌, ◌%◌, ◌==◌, Bool, ◌||◌, List, [], ◌∷◌, count_by}
 use Rattle.std.specs.List.{list_any, flat_map}
 use Rattle.plane_edges.specs.Plane.{Place, Segment, is_on, crosses}
-
--- a position; a ring; a polygon, its outer ring and its holes
-abbrev pub Position : Type 0
-Position = ℤ × ℤ
-
-abbrev pub Ring : Type 0
-Ring = List Position
-
-abbrev pub Polygon : Type 0
-Polygon = List Ring
-
--- the last position of a ring that begins with p
-abbrev pub last_after : Position → Ring → Position
-last_after p [] = p
-last_after p (q ∷ rest) = last_after q rest
-
--- the ring ends where it begins
-abbrev pub is_closed : Ring → Bool
-is_closed [] = true
-is_closed (p ∷ rest) = int_eq (last_after p rest).0 p.0 && int_eq (last_after p rest).1 p.1
+use Rattle.ring_survey.specs.Polygons.{Position, Ring, Polygon}
 
 -- the edge between two positions, in place units
 abbrev pub edge_between : Position → Position → Segment

@@ -4,7 +4,8 @@ use Rattle.std.specs.Option.{option_or}
 use Rattle.std.specs.List.{filter, flat_map, list_any}
 use Rattle.plane_edges.specs.declared.edges.Edge.{Edge}
 use Rattle.plane_edges.specs.Plane.{Place, Segment, Box, is_on, crosses, xor, IsOrdered}
-use Rattle.region.specs.Rings.{Polygon, polygon_edges, is_within}
+use Rattle.ring_survey.specs.Polygons.{Polygon}
+use Rattle.region.specs.Rings.{polygon_edges, is_within}
 use Rattle.plane_edges.specs.EdgePoints.{first_point, corner, misses_latitudes}
 use Rattle.region.specs.Named.{named}
 use Rattle.plane_edges.specs.Views.{segment_of}

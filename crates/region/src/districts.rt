@@ -7,20 +7,18 @@ ghost use Rattle.region.specs.Strips.{AreStripsOf, IsBandOf};
 ghost use Rattle.plane_edges.specs.Plane.{Place, IsIn};
 ghost use Rattle.region.specs.Rings.{is_in_district};
 ghost use Rattle.region.specs.Named.{named};
-ghost use Rattle.region.specs.Extent.{longitudes, latitudes, positions_of, least, greatest, is_compact};
-ghost use Rattle.region.specs.Faults.{first_fault, IsSurveyed};
-ghost use Rattle.region.specs.Vectors.{rings_in, polygons_in};
+ghost use Rattle.ring_survey.specs.Extent.{longitudes, latitudes, positions_of, least, greatest, is_compact};
+ghost use Rattle.ring_survey.specs.Faults.{first_fault, IsSurveyed};
+ghost use Rattle.ring_survey.specs.Vectors.{rings_in, polygons_in};
 ghost use Rattle.plane_edges.specs.Views.{place_of, box_of};
 
 use crate::bands::{Band, band_of};
-use crate::counts::RingList;
-use crate::faults::RegionFault;
 use crate::polygons::{Polygon, any_contains, first_point};
 use crate::rings::Ring;
 use crate::strips::{Strips, strips_of};
-use crate::surveys::survey_of;
 use no_memory::NoMemory;
 use plane_edges::{Point, Rect, corner};
+use ring_survey::{RegionFault, RingList, survey_of};
 use std::alloc::{AllocError, Global};
 use std::marker::Model;
 

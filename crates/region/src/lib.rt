@@ -4,23 +4,16 @@
 
 mod bands;
 mod blocks;
-mod bounds;
-mod counts;
 mod districts;
-mod extents;
-mod faults;
 mod keeps;
 pub mod laws;
 mod polygons;
 mod rings;
 mod scans;
 mod strips;
-mod surveys;
 
 pub use bands::Band;
-pub use counts::{RingList, check_rings, lacks_ring, room_left};
 pub use districts::District;
-pub use extents::reaches_far;
-pub use faults::RegionFault;
 pub use plane_edges::{Edge, Point, Rect, are_above, are_below};
+pub use ring_survey::{RegionFault, RingList, check_rings, lacks_ring, reaches_far, room_left};
 pub use strips::{Strip, Strips};

@@ -6,7 +6,7 @@ ghost use Rattle.std.specs.Option.{option_map};
 ghost use Rattle.plane_edges.specs.Plane.{is_on, crosses};
 ghost use Rattle.region.specs.Rings.{edge_between, edges_from, ring_edges, is_odd};
 ghost use Rattle.plane_edges.specs.EdgePoints.{first_point};
-ghost use Rattle.region.specs.Extent.{is_far, is_step, is_compact, is_compact_from};
+ghost use Rattle.ring_survey.specs.Extent.{is_far, is_step, is_compact, is_compact_from};
 ghost use Rattle.plane_edges.specs.Views.{place_of, box_of, segment_of};
 
 use crate::keeps::keep_edge;

@@ -1,6 +1,6 @@
 // Several days of one place in one search.
 ghost use Rattle.std.specs.Prelude.{◌≡◌, ◌*◌, ◌<◌, ◌^◌, None, IfOk, length, neg_ℤ, pos, ◌≤ℤ◌};
-ghost use Rattle.region.specs.Faults.{first_fault};
+ghost use Rattle.ring_survey.specs.Faults.{first_fault};
 ghost use Rattle.plain_search.specs.Harvests.{IsHarvest};
 
 use cell_judge::Sky;

@@ -13,12 +13,12 @@ use Rattle.geo_json.specs.Geometry.{features_list}
 use Rattle.order_reader.specs.Reading.{district_of, unless_refused}
 use Rattle.order_reader.specs.declared.fault.OrderFault.{OrderFault}
 use Rattle.order_reader.specs.declared.fault.OrderFault.TheVariants.{NoMemory, Region}
-use Rattle.region.proofs.EachLemmas.{each_length}
-use Rattle.region.specs.Each.{each_of}
-use Rattle.region.specs.Faults.{first_fault}
-use Rattle.region.specs.Rings.{Polygon}
-use Rattle.region.specs.Vectors.{polygons_in, rings_in}
-use Rattle.region.specs.declared.faults.RegionFault.{RegionFault}
+use Rattle.ring_survey.proofs.EachLemmas.{each_length}
+use Rattle.ring_survey.specs.Each.{each_of}
+use Rattle.ring_survey.specs.Faults.{first_fault}
+use Rattle.ring_survey.specs.Polygons.{Polygon}
+use Rattle.ring_survey.specs.Vectors.{polygons_in, rings_in}
+use Rattle.ring_survey.specs.declared.faults.RegionFault.{RegionFault}
 use Rattle.set_reader.specs.Features.{each_feature, feature_of, features_of, polygons_of}
 use Rattle.set_reader.specs.Reading.{parts_of, unless_one_refused}
 use Rattle.set_reader.specs.Together.{AreParts, parts_fault}

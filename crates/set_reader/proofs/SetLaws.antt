@@ -14,8 +14,8 @@ use Rattle.order_reader.specs.Reads.{answer_by}
 use Rattle.order_reader.specs.declared.fault.Member.TheVariants as members
 use Rattle.order_reader.specs.declared.fault.OrderFault.{OrderFault}
 use Rattle.order_reader.specs.declared.fault.OrderFault.TheVariants.{Geometry, Kind}
-use Rattle.region.specs.Faults.{first_fault}
-use Rattle.region.specs.Rings.{Polygon}
+use Rattle.ring_survey.specs.Faults.{first_fault}
+use Rattle.ring_survey.specs.Polygons.{Polygon}
 use Rattle.set_reader.proofs.PartsLemmas.{are_parts, is_district}
 use Rattle.set_reader.specs.Asked.{SetAsked}
 use Rattle.set_reader.specs.Features.{features_of, polygons_of}

@@ -1,7 +1,7 @@
 -- What a set of districts asks for: a set without the proofs of its rule.
 use Rattle.std.specs.Prelude.{List}
 use Rattle.order_rule.specs.Asked as order
-use Rattle.region.specs.Rings.{Polygon}
+use Rattle.ring_survey.specs.Polygons.{Polygon}
 use Rattle.set_reader.specs.declared.set.SetOrder.{SetOrder}
 
 pub record SetAsked : Type 0 where

@@ -4,8 +4,8 @@ use Rattle.std.specs.List.{flat_map}
 use Rattle.exact_json.specs.Tree.{Tree, Entry}
 use Rattle.geo_json.specs.Geometry.{feature_in, features_list}
 use Rattle.geo_json.specs.Lookup.{object_in}
-use Rattle.region.specs.Each.{each_of}
-use Rattle.region.specs.Rings.{Polygon}
+use Rattle.ring_survey.specs.Each.{each_of}
+use Rattle.ring_survey.specs.Polygons.{Polygon}
 
 -- a Feature with a Polygon or a MultiPolygon
 abbrev pub feature_of : Tree → Option (List Polygon)

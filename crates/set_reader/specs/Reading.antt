@@ -10,8 +10,8 @@ use Rattle.order_reader.specs.Reading.{asked_by, basis_of, district_of, extras_o
 use Rattle.order_reader.specs.declared.fault.Member.TheVariants as members
 use Rattle.order_reader.specs.declared.fault.OrderFault.{OrderFault}
 use Rattle.order_reader.specs.declared.fault.OrderFault.TheVariants.{Geometry, Kind, Range, Region}
-use Rattle.region.specs.Rings.{Polygon}
-use Rattle.region.specs.declared.faults.RegionFault.{RegionFault}
+use Rattle.ring_survey.specs.Polygons.{Polygon}
+use Rattle.ring_survey.specs.declared.faults.RegionFault.{RegionFault}
 use Rattle.set_reader.specs.Asked.{SetAsked}
 use Rattle.set_reader.specs.Features.{features_of, polygons_of}
 use Rattle.set_reader.specs.Together.{parts_fault}

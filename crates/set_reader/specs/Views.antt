@@ -1,8 +1,8 @@
 -- What the code's values stand for.
 use Rattle.std.specs.Prelude.{ℤ, List, map}
 use Rattle.std.specs.declared.vec.Vec.{Vec}
-use Rattle.region.specs.Rings.{Polygon}
-use Rattle.region.specs.Vectors.{polygons_in}
+use Rattle.ring_survey.specs.Polygons.{Polygon}
+use Rattle.ring_survey.specs.Vectors.{polygons_in}
 use Rattle.set_reader.specs.Reading as reading
 use Rattle.set_reader.specs.declared.districts.Districts.{Districts}
 

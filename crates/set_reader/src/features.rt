@@ -2,8 +2,8 @@
 ghost use Rattle.std.specs.Prelude.{◌≡◌, IfOk};
 ghost use Rattle.exact_json.specs.View.{entries_of, items_of, tree_of};
 ghost use Rattle.geo_json.specs.Geometry.{Answers};
-ghost use Rattle.region.specs.Each.{each_of};
-ghost use Rattle.region.specs.Vectors.{polygons_in};
+ghost use Rattle.ring_survey.specs.Each.{each_of};
+ghost use Rattle.ring_survey.specs.Vectors.{polygons_in};
 ghost use Rattle.set_reader.specs.Features.{each_feature, feature_of, features_of, polygons_of};
 ghost use Rattle.set_reader.specs.Views.{features_in};
 

@@ -17,7 +17,7 @@ pub struct Parts {
 
 impl Model for Parts {
     ghost use Rattle.std.specs.Prelude.{List};
-    ghost use Rattle.region.specs.Rings.{Polygon};
+    ghost use Rattle.ring_survey.specs.Polygons.{Polygon};
 
     ghost Value = { List (List Polygon) };
 

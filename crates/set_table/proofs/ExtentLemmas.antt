@@ -8,13 +8,13 @@ use Rattle.std.proofs.lemmas.Int.{ints, clamps}
 use Rattle.std.proofs.lemmas.List.{map-append}
 use Rattle.std.proofs.lemmas.List.Concat.{flat_map-append}
 use Rattle.std.proofs.lemmas.List.Elements.{All-from_recursion}
-use Rattle.region.specs.Extent.{greatest, is_far, is_wide, latitudes, least, longitudes, positions_of}
-use Rattle.region.specs.Faults.{first_fault, lacks_ring}
-use Rattle.region.specs.Rings.{Polygon, Position}
-use Rattle.region.specs.declared.faults.RegionFault.{RegionFault}
-use Rattle.region.specs.declared.faults.RegionFault.TheVariants.{NoPolygon, Short, TooFar, TooMany, TooWide}
-use Rattle.region.proofs.Reach.{AllIn, all_in}
-use Rattle.region.proofs.Sound.{else_none}
+use Rattle.ring_survey.specs.Extent.{greatest, is_far, is_wide, latitudes, least, longitudes, positions_of}
+use Rattle.ring_survey.specs.Faults.{first_fault, lacks_ring}
+use Rattle.ring_survey.specs.Polygons.{Polygon, Position}
+use Rattle.ring_survey.specs.declared.faults.RegionFault.{RegionFault}
+use Rattle.ring_survey.specs.declared.faults.RegionFault.TheVariants.{NoPolygon, Short, TooFar, TooMany, TooWide}
+use Rattle.ring_survey.proofs.Reach.{AllIn, all_in}
+use Rattle.ring_survey.proofs.Sound.{else_none}
 use Rattle.cell_split.specs.declared.cell.Cell.{Cell}
 use Rattle.cell_split.specs.Cells.{side}
 use Rattle.cell_judge.specs.Limits.{IsOver}

@@ -12,7 +12,7 @@ use Rattle.method_table.specs.Row.{Row, row_of}
 use Rattle.order_table.specs.Made.{day_of}
 use Rattle.order_table.specs.Trees.{entries_of, root_over}
 use Rattle.order_table.specs.declared.day.Day.{Day}
-use Rattle.region.specs.Rings.{Polygon}
+use Rattle.ring_survey.specs.Polygons.{Polygon}
 use Rattle.set_reader.specs.Asked.{SetAsked}
 use Rattle.sun_choice.specs.declared.choice.SunChoice.{SunChoice}
 use Rattle.set_table.specs.Made.{HaveOneRoot, Scope, entries_over, first_root, scope_of, scope_over, searched}

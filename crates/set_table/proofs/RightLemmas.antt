@@ -7,8 +7,8 @@ use Rattle.std.proofs.lemmas.List.Elements.{All-from_recursion, recursion_from_A
 use Rattle.chosen_sun.specs.Suns.{exact_sun_of}
 use Rattle.chosen_sun.proofs.SunLaws.{suns_are_sound}
 use Rattle.method_table.specs.Row.{Row}
-use Rattle.region.specs.Faults.{first_fault}
-use Rattle.region.specs.Rings.{Polygon}
+use Rattle.ring_survey.specs.Faults.{first_fault}
+use Rattle.ring_survey.specs.Polygons.{Polygon}
 use Rattle.cell_split.specs.declared.cell.Cell.{Cell}
 use Rattle.cell_split.specs.declared.verdict.Entry.{Entry}
 use Rattle.cell_split.specs.declared.verdict.Entry.TheVariants.{Whole}

@@ -8,7 +8,7 @@ use Rattle.method_table.specs.Row.{Row}
 use Rattle.order_table.specs.Made.{day_of, rows_of}
 use Rattle.order_table.specs.Trees.{entries_of}
 use Rattle.order_table.specs.declared.day.Day.{Day}
-use Rattle.region.specs.Rings.{Polygon}
+use Rattle.ring_survey.specs.Polygons.{Polygon}
 use Rattle.sun_choice.specs.declared.choice.SunChoice.{SunChoice}
 use Rattle.set_table.specs.Table.{SetDay, set_day}
 

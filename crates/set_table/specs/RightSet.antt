@@ -6,7 +6,7 @@ use Rattle.order_table.specs.Days.{DayRows, days_of}
 use Rattle.order_table.specs.RightTable.{AreRightEntries}
 use Rattle.order_table.specs.Table.{DayTable, rows_in}
 use Rattle.order_table.specs.Trees.{root_over}
-use Rattle.region.specs.Rings.{Polygon}
+use Rattle.ring_survey.specs.Polygons.{Polygon}
 use Rattle.set_reader.specs.Asked.{SetAsked}
 use Rattle.sun_choice.specs.declared.choice.SunChoice.{SunChoice}
 use Rattle.set_table.specs.Table.{SetDay}

@@ -7,7 +7,7 @@ use Rattle.order_rule.specs.Asked.{Asked}
 use Rattle.order_table.specs.Days.{DayRows}
 use Rattle.order_table.specs.Table.{DayTable, day_found, day_text, days_undecided}
 use Rattle.order_table.specs.Trees.{columns}
-use Rattle.region.specs.Extent.{positions_of}
+use Rattle.ring_survey.specs.Extent.{positions_of}
 use Rattle.set_reader.specs.Asked.{SetAsked}
 use Rattle.year_table.specs.Dates.{date_text}
 use Rattle.year_table.specs.Lines.{height_text, order_text, span_text, sun_text, words_text}

@@ -16,8 +16,8 @@ use Rattle.method_table.specs.Row.{Row}
 use Rattle.outcome.specs.Writing.{Writes}
 use Rattle.outcome.specs.declared.stop.Stop.{Stop}
 use Rattle.outcome.proofs.Streams.{adds_nothing, dry, stopped, written}
-use Rattle.region.specs.Faults.{first_fault}
-use Rattle.region.specs.Rings.{Polygon}
+use Rattle.ring_survey.specs.Faults.{first_fault}
+use Rattle.ring_survey.specs.Polygons.{Polygon}
 use Rattle.order_table.specs.Made.{day_of}
 use Rattle.order_table.specs.Made.{night_of as rows_of_night}
 use Rattle.order_table.specs.Printing.{IsPrintable}

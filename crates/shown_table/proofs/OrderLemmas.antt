@@ -12,7 +12,7 @@ use Rattle.night_portion.specs.SafeNights.{AreStarts}
 use Rattle.night_portion.specs.Sun.{night_rows}
 use Rattle.night_portion.proofs.DayLemmas.{days_have_nights, sun_has_rows}
 use Rattle.night_rule.specs.declared.rule.NightRule.{NightRule}
-use Rattle.region.specs.Faults.{first_fault}
+use Rattle.ring_survey.specs.Faults.{first_fault}
 use Rattle.cell_split.proofs.Every.{Every-weaker}
 use Rattle.cell_split.specs.declared.verdict.Entry.{Entry}
 use Rattle.cell_judge.specs.DayLaws.{IsDay}

@@ -11,7 +11,7 @@ use Rattle.covering_check.specs.declared.fault.CoverFault.TheVariants.{NotLine}
 use Rattle.outcome.specs.Writing.{Writes}
 use Rattle.outcome.specs.declared.stop.Stop.{Stop}
 use Rattle.outcome.proofs.Streams.{adds_nothing, stopped, then_writes, written}
-use Rattle.region.specs.Rings.{Polygon}
+use Rattle.ring_survey.specs.Polygons.{Polygon}
 use Rattle.order_rule.specs.Asked.{Asked}
 use Rattle.order_table.specs.Days.{DayRows, days_of}
 use Rattle.order_table.specs.Made.{day_of}

@@ -6,7 +6,7 @@ use Rattle.order_table.specs.Table.{days_text}
 use Rattle.order_table.specs.declared.day.Day.{Day}
 use Rattle.order_table.specs.declared.day.Night.{Night}
 use Rattle.order_table.specs.declared.ready.Ready.{Ready}
-use Rattle.region.specs.Rings.{Polygon}
+use Rattle.ring_survey.specs.Polygons.{Polygon}
 use Rattle.sun_choice.specs.declared.choice.SunChoice.{SunChoice}
 use Rattle.shown_table.specs.Shown.{ShownDays, days_shown, lines_of}
 

@@ -15,7 +15,7 @@ use Rattle.order_table.specs.Table.{DayTable, day_found, days_undecided, front_t
 use Rattle.order_table.specs.Trees.{columns, night_columns, root_over}
 use Rattle.outcome.specs.Answer.{Answer, finished}
 use Rattle.outcome.specs.declared.status.Status.TheVariants.{CoverRefused}
-use Rattle.region.specs.Rings.{Polygon}
+use Rattle.ring_survey.specs.Polygons.{Polygon}
 use Rattle.year_table.specs.Dates.{date_text}
 use Rattle.sun_choice.specs.declared.choice.SunChoice.{SunChoice}
 use Rattle.shown_table.specs.declared.bad.BadLine.{BadLine}

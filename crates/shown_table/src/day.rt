@@ -4,7 +4,7 @@ ghost use Rattle.order_table.specs.Made.{day_of};
 ghost use Rattle.order_table.specs.Printing.{IsPrintable};
 ghost use Rattle.order_table.specs.Table.{days_text};
 ghost use Rattle.outcome.specs.Writing.{Writes};
-ghost use Rattle.region.specs.Faults.{first_fault};
+ghost use Rattle.ring_survey.specs.Faults.{first_fault};
 ghost use Rattle.shown_table.specs.Came.{IfWhole, IsBad, ShowsDayEntries, ShowsDays, ShowsEntries};
 ghost use Rattle.shown_table.specs.Shown.{columns_shown, day_shown, days_shown, lines_of};
 

@@ -5,7 +5,7 @@ ghost use Rattle.night_portion.specs.Sun.{repeated};
 ghost use Rattle.order_table.specs.Made.{night_of};
 ghost use Rattle.order_table.specs.Printing.{IsPrintable};
 ghost use Rattle.order_table.specs.Trees.{night_columns};
-ghost use Rattle.region.specs.Faults.{first_fault};
+ghost use Rattle.ring_survey.specs.Faults.{first_fault};
 ghost use Rattle.shown_table.specs.Came.{ShowsEntries, ShowsNightEntries};
 ghost use Rattle.shown_table.specs.Made.{night_lines_by};
 ghost use Rattle.shown_table.specs.Shown.{entries_shown, night_shown, sun_shown_at};

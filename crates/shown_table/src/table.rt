@@ -3,7 +3,7 @@ ghost use Rattle.std.specs.Prelude.{◌≡◌, ◌≤◌, None, length};
 ghost use Rattle.order_rule.specs.Asked.{asked_of};
 ghost use Rattle.order_table.specs.Table.{days_text};
 ghost use Rattle.outcome.specs.Writing.{Writes};
-ghost use Rattle.region.specs.Faults.{first_fault};
+ghost use Rattle.ring_survey.specs.Faults.{first_fault};
 ghost use Rattle.shown_table.specs.Came.{IfWhole, ShowsDays, ShowsTable};
 ghost use Rattle.shown_table.specs.Right.{IsRightShown};
 ghost use Rattle.shown_table.specs.Shown.{shown_table, shown_text};

@@ -14,13 +14,13 @@ use Rattle.order_reader.specs.Dates.{day_of, ymd_in}
 use Rattle.order_reader.specs.Members.{days_in, from_in, offsets_in, zone_in}
 use Rattle.order_reader.specs.Reading.{basis_of, district_in, extras_of, order_in, order_of}
 use Rattle.order_rule.specs.Offsets.{offsets_of}
-use Rattle.region.specs.Each.{each_of}
+use Rattle.ring_survey.specs.Each.{each_of}
 use Rattle.year_table.specs.Dates.{months_within}
 use Rattle.order_reader.specs.Reads.{ReadsOrder}
 use Rattle.order_text.specs.Line.{list_text, more_text}
 use Rattle.order_text.proofs.LineTree.{number_field, number_tree, polygon_tree, position_tree, ring_tree, text_field}
 use Rattle.order_text.proofs.SpelledLemmas.{Field, IsField, Spells, entry_of, no_blanks, object_text, spells_list, spells_number, spells_object, spells_text}
-use Rattle.region.specs.Rings.{Polygon, Position, Ring}
+use Rattle.ring_survey.specs.Polygons.{Polygon, Position, Ring}
 use Rattle.timetable.specs.Examples.{first_asked, first_order, first_place}
 
 -- the text of each part

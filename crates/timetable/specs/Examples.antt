@@ -3,7 +3,7 @@ use Rattle.std.specs.Prelude.{ℕ, pos, List, [], ◌∷◌, None, codes}
 use Rattle.method_table.specs.declared.method.Asr.TheVariants.{Standard}
 use Rattle.method_table.specs.declared.method.Method.TheVariants.{Mwl}
 use Rattle.order_rule.specs.Asked.{Asked}
-use Rattle.region.specs.Rings.{Position}
+use Rattle.ring_survey.specs.Polygons.{Position}
 use Rattle.sun_choice.specs.declared.choice.SunChoice.TheVariants.{Usno}
 use Rattle.year_table.specs.declared.zone.Zone.TheVariants.{Fixed}
 

@@ -5,7 +5,7 @@ use Rattle.std.proofs.lemmas.List.Concat.{flat_map-append}
 use Rattle.std.proofs.lemmas.List.Sums.{sum_by-append}
 use Rattle.cell_split.specs.declared.cell.Cell.{Cell}
 use Rattle.cell_split.specs.declared.verdict.Entry.{Entry}
-use Rattle.region.specs.Rings.{Polygon}
+use Rattle.ring_survey.specs.Polygons.{Polygon}
 use Rattle.sun_choice.specs.declared.choice.SunChoice.{SunChoice}
 use Rattle.order_table.specs.Made.{searched}
 use Rattle.order_table.specs.Table.{day_text, day_undecided, days_text, days_undecided}

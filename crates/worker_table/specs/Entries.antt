@@ -5,7 +5,7 @@ use Rattle.cell_split.specs.declared.verdict.Entry.{Entry}
 use Rattle.order_table.specs.Made.{rows_of}
 use Rattle.order_table.specs.Trees.{entries_of}
 use Rattle.order_table.specs.declared.day.Day.{Day}
-use Rattle.region.specs.Rings.{Polygon}
+use Rattle.ring_survey.specs.Polygons.{Polygon}
 use Rattle.sun_choice.specs.declared.choice.SunChoice.{SunChoice}
 
 -- of a sky over a district, seven to a day

@@ -1,5 +1,5 @@
 use Rattle.std.proofs.Common.{◌≡◌, Some, None, sym, ◌∙◌}
-use Rattle.region.specs.Vectors.{polygons_in}
+use Rattle.ring_survey.specs.Vectors.{polygons_in}
 use Rattle.border_check.specs.Squares.{root}
 use Rattle.border_check.proofs.Drawing.{drawn, district_drawn}
 use Rattle.border_check.proofs.Trees.{settled_holds, unsettled_is_open}

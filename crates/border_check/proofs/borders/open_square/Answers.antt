@@ -1,6 +1,6 @@
 use Rattle.std.proofs.Common.{ap, ◌∙◌}
 use Rattle.plane_edges.specs.Plane.{Box}
-use Rattle.region.specs.Vectors.{polygons_in}
+use Rattle.ring_survey.specs.Vectors.{polygons_in}
 use Rattle.border_check.specs.declared.squares.Square.{Square}
 use Rattle.border_check.specs.Shares.{ShareView, share_of}
 use Rattle.border_check.specs.Settled.{open_in, unsettled}

@@ -1,5 +1,5 @@
 use Rattle.std.proofs.Common.{◌≡◌, [], take, slice_index_or}
-use Rattle.region.specs.Vectors.{rings_in}
+use Rattle.ring_survey.specs.Vectors.{rings_in}
 use Rattle.border_check.proofs.districts.polygon_of.Given as goal
 
 abbrev pub invariant-loop-ring : goal.invariant-loop-ring

@@ -1,5 +1,5 @@
 use Rattle.std.proofs.Common.{◌≡◌, take}
-use Rattle.region.specs.Vectors.{polygons_in}
+use Rattle.ring_survey.specs.Vectors.{polygons_in}
 use Rattle.border_check.proofs.districts.polygons_of.Given as goal
 
 abbrev pub invariant-loop-polygon : goal.invariant-loop-polygon

@@ -1,7 +1,7 @@
 use Rattle.std.proofs.Common.{List, [], slice_index_or, pos, ◌∷◌, ◌++◌, take, ap, sym, ◌∙◌}
 use Rattle.std.proofs.lemmas.List.{take_more}
 use Rattle.std.proofs.lemmas.Option.{get_or_from_slice_get}
-use Rattle.region.specs.Rings.{Position}
+use Rattle.ring_survey.specs.Polygons.{Position}
 use Rattle.border_check.proofs.districts.ring_of.Goals as goal
 
 pub loop-i-preserved : goal.loop-i-preserved

@@ -4,7 +4,7 @@ use Rattle.std.proofs.lemmas.Int.{to_z-of_z}
 use Rattle.std.proofs.lemmas.Grind.{common_steps}
 use Rattle.plane_edges.specs.EdgePoints.{corner}
 use Rattle.border_check.specs.Views.{box_of, segment_of}
-use Rattle.region.proofs.Along.{next_left}
+use Rattle.ring_survey.proofs.Counting.{next_left}
 use Rattle.border_check.specs.Shares.{changes, grown, meets, PartView}
 use Rattle.border_check.proofs.Growing.{grow_more, grow_one, grown-none}
 use Rattle.border_check.proofs.parts.edges_within.Goals as goal

@@ -1,6 +1,6 @@
 use Rattle.std.proofs.Common.{FitsSigned, rules, w64, arith}
 use Rattle.std.proofs.lemmas.Int.{ints, to_z-of_z}
-use Rattle.region.specs.Extent.{latitudes}
+use Rattle.ring_survey.specs.Extent.{latitudes}
 use Rattle.cell_judge.proofs.TileLemmas.{least_at_most}
 use Rattle.cell_judge.proofs.tiles.northward.Goals as goal
 

@@ -4,7 +4,7 @@ use Rattle.exact_json.specs.View.{tree_of, items_of}
 use Rattle.geo_json.specs.Geometry.{polygon_in}
 use Rattle.geo_json.proofs.GeometryLemmas.{one_more, refused_here, no_more}
 use Rattle.geo_json.proofs.positions.multi_polygon_of.Goals as goal
-use Rattle.region.specs.Vectors.{rings_in, polygons_in}
+use Rattle.ring_survey.specs.Vectors.{rings_in, polygons_in}
 
 pub returns-in-Err : goal.returns-in-Err
 returns-in-Err c =

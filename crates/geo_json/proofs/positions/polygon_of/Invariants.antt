@@ -2,9 +2,9 @@ use Rattle.std.proofs.Common.{◌≡◌, drop}
 use Rattle.exact_json.specs.View.{items_of}
 use Rattle.geo_json.specs.Geometry.{ring_in}
 use Rattle.geo_json.proofs.positions.polygon_of.Given as goal
-use Rattle.region.specs.Each.{each_of}
-use Rattle.region.proofs.EachLemmas.{with_front}
-use Rattle.region.specs.Vectors.{rings_in}
+use Rattle.ring_survey.specs.Each.{each_of}
+use Rattle.ring_survey.proofs.EachLemmas.{with_front}
+use Rattle.ring_survey.specs.Vectors.{rings_in}
 
 abbrev pub invariant-loop-i : goal.invariant-loop-i
 invariant-loop-i l = with_front (rings_in l.polygon.items) (each_of (ring_in l.notation) (drop l.i (items_of l.rings))) ≡ each_of (ring_in l.notation) (items_of l.rings)

@@ -2,8 +2,8 @@ use Rattle.std.proofs.Common.{◌≡◌, drop}
 use Rattle.exact_json.specs.View.{items_of}
 use Rattle.order_reader.specs.Members.{pair_in}
 use Rattle.order_reader.proofs.late.pairs_in.Given as goal
-use Rattle.region.proofs.EachLemmas.{with_front}
-use Rattle.region.specs.Each.{each_of}
+use Rattle.ring_survey.proofs.EachLemmas.{with_front}
+use Rattle.ring_survey.specs.Each.{each_of}
 
 -- the pairs so far, with those that are left, are all
 abbrev pub invariant-loop-i : goal.invariant-loop-i

@@ -1,8 +1,8 @@
 use Rattle.std.proofs.Common.{◌≡◌, drop}
 use Rattle.order_reader.specs.Members.{range_of}
 use Rattle.order_reader.proofs.late.ranges_of.Given as goal
-use Rattle.region.proofs.EachLemmas.{with_front}
-use Rattle.region.specs.Each.{each_of}
+use Rattle.ring_survey.proofs.EachLemmas.{with_front}
+use Rattle.ring_survey.specs.Each.{each_of}
 
 -- the ranges so far, with those that are left, are all
 abbrev pub invariant-loop-pair : goal.invariant-loop-pair

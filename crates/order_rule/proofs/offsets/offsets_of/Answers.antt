@@ -1,7 +1,7 @@
 -- What is left of the days is read one by one.
 use Rattle.std.proofs.Common.{◌≡◌, ◌∙◌, ap, sym, ℤ, pos, ◌+ℤ◌, List, Some, None, to_z, of_z, w32, arith, FitsSigned}
 use Rattle.std.proofs.lemmas.Int.{ints}
-use Rattle.region.proofs.EachLemmas.{each_length, each_start, with_front}
+use Rattle.ring_survey.proofs.EachLemmas.{each_length, each_start, with_front}
 use Rattle.order_rule.proofs.OffsetLemmas.{days_length, offsets_in_range, so_far-end, so_far-more, so_far-none}
 use Rattle.order_rule.specs.Offsets.{offsets_of, days_from}
 use Rattle.year_table.specs.Zones.{day_offset}

@@ -1,7 +1,7 @@
 use Rattle.std.proofs.Common.{◌≡◌, true}
 use Rattle.std.specs.List.{list_all}
-use Rattle.region.specs.Extent.{is_compact}
-use Rattle.region.specs.Vectors.{polygons_in}
+use Rattle.ring_survey.specs.Extent.{is_compact}
+use Rattle.ring_survey.specs.Vectors.{polygons_in}
 use Rattle.region.proofs.districts.polygon_list.Given as goal
 
 abbrev pub invariant-loop-rings : goal.invariant-loop-rings

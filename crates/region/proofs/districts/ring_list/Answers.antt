@@ -1,6 +1,6 @@
 use Rattle.std.specs.List.{list_all}
-use Rattle.region.specs.Extent.{is_compact}
-use Rattle.region.specs.Vectors.{rings_in}
+use Rattle.ring_survey.specs.Extent.{is_compact}
+use Rattle.ring_survey.specs.Vectors.{rings_in}
 use Rattle.plane_edges.proofs.Truth.{and_left}
 use Rattle.region.proofs.districts.ring_list.Goals as goal
 

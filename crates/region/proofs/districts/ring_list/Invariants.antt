@@ -1,7 +1,7 @@
 use Rattle.std.proofs.Common.{◌≡◌, true}
 use Rattle.std.specs.List.{list_all}
-use Rattle.region.specs.Extent.{is_compact}
-use Rattle.region.specs.Vectors.{rings_in}
+use Rattle.ring_survey.specs.Extent.{is_compact}
+use Rattle.ring_survey.specs.Vectors.{rings_in}
 use Rattle.region.proofs.districts.ring_list.Given as goal
 
 abbrev pub invariant-loop-ring : goal.invariant-loop-ring

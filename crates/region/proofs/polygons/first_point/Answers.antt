@@ -1,9 +1,11 @@
 use Rattle.std.proofs.Common.{List, ◌+◌, drop, ap, sym, ◌∙◌}
 use Rattle.std.specs.List.{flat_map}
-use Rattle.region.specs.Rings.{Polygon, polygon_edges}
+use Rattle.ring_survey.specs.Polygons.{Polygon}
+use Rattle.region.specs.Rings.{polygon_edges}
 use Rattle.plane_edges.specs.EdgePoints.{first_point}
 use Rattle.plane_edges.specs.Views.{place_of, box_of}
-use Rattle.region.proofs.Along.{next_left, first_here, first_later}
+use Rattle.ring_survey.proofs.Counting.{next_left}
+use Rattle.region.proofs.Along.{first_here, first_later}
 use Rattle.region.proofs.polygons.first_point.Goals as goal
 
 pub returns-in-Some : goal.returns-in-Some

@@ -3,7 +3,8 @@ use Rattle.std.proofs.lemmas.Grind.{common_steps}
 use Rattle.plane_edges.specs.Plane.{crosses}
 use Rattle.region.specs.Rings.{ring_edges, polygon_edges}
 use Rattle.plane_edges.specs.Views.{place_of}
-use Rattle.region.proofs.Along.{next_left, ring_touched}
+use Rattle.ring_survey.proofs.Counting.{next_left}
+use Rattle.region.proofs.Along.{ring_touched}
 use Rattle.region.proofs.Odd.{xor_false, is_odd-count_by}
 use Rattle.region.proofs.polygons.rings_touch.Goals as goal
 

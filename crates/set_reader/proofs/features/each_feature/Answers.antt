@@ -2,7 +2,7 @@ use Rattle.std.proofs.Common.{◌≤◌, length, arith}
 use Rattle.std.proofs.lemmas.List.{map-append}
 use Rattle.exact_json.specs.View.{tree_of, items_of}
 use Rattle.geo_json.proofs.GeometryLemmas.{one_more, refused_here, no_more}
-use Rattle.region.specs.Vectors.{polygons_in}
+use Rattle.ring_survey.specs.Vectors.{polygons_in}
 use Rattle.set_reader.proofs.features.each_feature.Goals as goal
 use Rattle.set_reader.specs.Features.{feature_of}
 use Rattle.set_reader.specs.Views.{features_in}

@@ -1,7 +1,7 @@
 use Rattle.std.proofs.Common.{◌≡◌, drop}
 use Rattle.exact_json.specs.View.{items_of}
-use Rattle.region.proofs.EachLemmas.{with_front}
-use Rattle.region.specs.Each.{each_of}
+use Rattle.ring_survey.proofs.EachLemmas.{with_front}
+use Rattle.ring_survey.specs.Each.{each_of}
 use Rattle.set_reader.proofs.features.each_feature.Given as goal
 use Rattle.set_reader.specs.Features.{feature_of}
 use Rattle.set_reader.specs.Views.{features_in}

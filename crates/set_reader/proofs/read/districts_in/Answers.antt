@@ -1,7 +1,7 @@
 use Rattle.std.proofs.Common.{◌≡◌, ◌∙◌, ap, sym}
 use Rattle.exact_json.specs.View.{entries_of}
 use Rattle.order_reader.specs.Reading.{district_of}
-use Rattle.region.specs.Vectors.{polygons_in}
+use Rattle.ring_survey.specs.Vectors.{polygons_in}
 use Rattle.set_reader.proofs.PartsLemmas.{are_parts}
 use Rattle.set_reader.proofs.read.districts_in.Goals as goal
 use Rattle.set_reader.specs.Features.{polygons_of}

@@ -1,5 +1,5 @@
 use Rattle.std.proofs.Common.{ap}
-use Rattle.region.specs.Vectors.{polygons_in}
+use Rattle.ring_survey.specs.Vectors.{polygons_in}
 use Rattle.set_reader.proofs.PartsLemmas.{one_made, one_refused}
 use Rattle.set_reader.proofs.read.parts_of.Goals as goal
 use Rattle.set_reader.specs.Views.{features_in}

@@ -1,6 +1,6 @@
 use Rattle.std.proofs.Common.{◌≡◌, ◌∙◌, ◌-◌, ap, arith, codes, refl, length}
 use Rattle.order_rule.specs.Asked.{asked_of}
-use Rattle.region.specs.Extent.{positions_of}
+use Rattle.ring_survey.specs.Extent.{positions_of}
 use Rattle.year_table.specs.Dates.{date_text}
 use Rattle.year_table.specs.Lines.{height_text, order_text, span_text, sun_text, words_text}
 use Rattle.set_table.proofs.MadeLemmas.{between}

@@ -1,8 +1,8 @@
 use Rattle.std.proofs.Common.{◌≡◌, List, subst, sym}
 use Rattle.std.specs.Prelude.{None}
 use Rattle.cell_split.specs.declared.cell.Cell.{Cell}
-use Rattle.region.specs.Faults.{first_fault}
-use Rattle.region.specs.Rings.{Polygon}
+use Rattle.ring_survey.specs.Faults.{first_fault}
+use Rattle.ring_survey.specs.Polygons.{Polygon}
 use Rattle.sun_choice.specs.declared.choice.SunChoice.{SunChoice}
 use Rattle.order_table.specs.Made.{day_of}
 use Rattle.shown_table.specs.Came.{ShowsEntries}

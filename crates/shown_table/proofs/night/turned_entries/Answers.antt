@@ -3,8 +3,8 @@ use Rattle.std.specs.Prelude.{None}
 use Rattle.cell_split.specs.declared.cell.Cell.{Cell}
 use Rattle.method_table.specs.Row.{row_of}
 use Rattle.method_table.specs.declared.problem.Problem.{Problem}
-use Rattle.region.specs.Faults.{first_fault}
-use Rattle.region.specs.Rings.{Polygon}
+use Rattle.ring_survey.specs.Faults.{first_fault}
+use Rattle.ring_survey.specs.Polygons.{Polygon}
 use Rattle.sun_choice.specs.declared.choice.SunChoice.{SunChoice}
 use Rattle.order_table.specs.Trees.{night_columns}
 use Rattle.shown_table.specs.Came.{ShowsEntries}

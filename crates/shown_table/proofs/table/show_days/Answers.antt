@@ -1,7 +1,7 @@
 use Rattle.std.proofs.Common.{◌≡◌, ◌∙◌, ◌∷◌, [], ◌≤◌, ◌+◌, Err, List, Ok, arith, subst, sym}
 use Rattle.cell_split.specs.declared.cell.Cell.{Cell}
 use Rattle.outcome.specs.Writing.{Writes}
-use Rattle.region.specs.Rings.{Polygon}
+use Rattle.ring_survey.specs.Polygons.{Polygon}
 use Rattle.order_table.specs.Made.{day_of}
 use Rattle.order_table.specs.Table.{days_text}
 use Rattle.sun_choice.specs.declared.choice.SunChoice.{SunChoice}

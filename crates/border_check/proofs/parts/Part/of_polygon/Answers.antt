@@ -1,9 +1,9 @@
 use Rattle.std.proofs.Common.{◌+◌, drop}
 use Rattle.plane_edges.specs.EdgePoints.{corner}
 use Rattle.plane_edges.specs.Plane.{crosses}
-use Rattle.region.specs.Vectors.{rings_in}
+use Rattle.ring_survey.specs.Vectors.{rings_in}
 use Rattle.border_check.specs.Views.{box_of}
-use Rattle.region.proofs.Along.{next_left}
+use Rattle.ring_survey.proofs.Counting.{next_left}
 use Rattle.border_check.specs.Shares.{meets}
 use Rattle.border_check.proofs.Growing.{ring_near, ring_taken}
 use Rattle.border_check.proofs.parts.Part.of_polygon.Goals as goal

@@ -1,7 +1,7 @@
 use Rattle.std.proofs.Common.{drop}
 use Rattle.plane_edges.specs.EdgePoints.{corner}
 use Rattle.plane_edges.specs.Plane.{crosses}
-use Rattle.region.specs.Vectors.{rings_in}
+use Rattle.ring_survey.specs.Vectors.{rings_in}
 use Rattle.border_check.specs.Views.{box_of}
 use Rattle.border_check.specs.Shares.{meets}
 use Rattle.border_check.proofs.Growing.{RingsTaken}

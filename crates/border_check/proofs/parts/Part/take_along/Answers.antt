@@ -1,6 +1,6 @@
 use Rattle.std.proofs.Common.{◌+◌, ◌∷◌, [], drop, get_or, pos, ap, ◌∙◌}
 use Rattle.std.specs.List.{list_any}
-use Rattle.region.specs.Extent.{is_far}
+use Rattle.ring_survey.specs.Extent.{is_far}
 use Rattle.plane_edges.specs.EdgePoints.{corner}
 use Rattle.plane_edges.specs.Plane.{Segment, crosses}
 use Rattle.border_check.specs.Views.{box_of}

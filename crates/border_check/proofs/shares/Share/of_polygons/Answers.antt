@@ -1,7 +1,7 @@
 use Rattle.std.proofs.Common.{◌+◌, drop}
-use Rattle.region.specs.Vectors.{rings_in, polygons_in}
+use Rattle.ring_survey.specs.Vectors.{rings_in, polygons_in}
 use Rattle.border_check.specs.Views.{box_of}
-use Rattle.region.proofs.Along.{next_left}
+use Rattle.ring_survey.proofs.Counting.{next_left}
 use Rattle.border_check.proofs.Growing.{polygon_near, polygon_shared}
 use Rattle.border_check.proofs.shares.Share.of_polygons.Goals as goal
 

@@ -1,5 +1,5 @@
 use Rattle.std.proofs.Common.{drop}
-use Rattle.region.specs.Vectors.{polygons_in}
+use Rattle.ring_survey.specs.Vectors.{polygons_in}
 use Rattle.border_check.specs.Views.{box_of}
 use Rattle.border_check.proofs.Growing.{PolygonsShared}
 use Rattle.border_check.proofs.shares.Share.of_polygons.Given as goal

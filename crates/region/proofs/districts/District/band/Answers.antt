@@ -1,6 +1,6 @@
 use Rattle.std.proofs.Common.{length, arith, sym, ap, ◌∙◌}
-use Rattle.region.specs.Faults.{first_fault}
-use Rattle.region.proofs.Sound.{sound}
+use Rattle.ring_survey.specs.Faults.{first_fault}
+use Rattle.ring_survey.proofs.Sound.{sound}
 use Rattle.region.proofs.districts.District.band.Goals as goal
 
 pub band_of-requires : goal.band_of-requires

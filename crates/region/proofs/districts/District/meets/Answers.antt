@@ -1,12 +1,13 @@
 use Rattle.std.proofs.Common.{List, sym, ap, ◌∙◌}
 use Rattle.std.specs.List.{flat_map}
-use Rattle.region.specs.Rings.{Polygon, polygon_edges, is_in_district}
+use Rattle.ring_survey.specs.Polygons.{Polygon}
+use Rattle.region.specs.Rings.{polygon_edges, is_in_district}
 use Rattle.plane_edges.specs.EdgePoints.{corner, first_point}
-use Rattle.region.specs.Faults.{first_fault}
+use Rattle.ring_survey.specs.Faults.{first_fault}
 use Rattle.plane_edges.specs.Views.{place_of, box_of}
 use Rattle.region.proofs.Wholly.{first_in, in_district_alike}
 use Rattle.plane_edges.proofs.Parity.{corner_ordered}
-use Rattle.region.proofs.Sound.{sound}
+use Rattle.ring_survey.proofs.Sound.{sound}
 use Rattle.region.proofs.districts.District.meets.Goals as goal
 
 pub returns-in-Some-clause-some : goal.returns-in-Some-clause-some

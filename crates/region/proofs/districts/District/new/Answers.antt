@@ -1,6 +1,6 @@
-use Rattle.region.specs.Vectors.{polygons_in}
-use Rattle.region.proofs.Sound.{sound}
-use Rattle.region.proofs.Reach.{all_short}
+use Rattle.ring_survey.specs.Vectors.{polygons_in}
+use Rattle.ring_survey.proofs.Sound.{sound}
+use Rattle.ring_survey.proofs.Reach.{all_short}
 use Rattle.region.proofs.districts.District.new.Goals as goal
 
 pub polygon_list-requires : goal.polygon_list-requires

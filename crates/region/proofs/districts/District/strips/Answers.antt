@@ -1,6 +1,6 @@
 use Rattle.std.proofs.Common.{length, arith, sym, ap, ◌∙◌}
-use Rattle.region.specs.Faults.{first_fault}
-use Rattle.region.proofs.Sound.{sound}
+use Rattle.ring_survey.specs.Faults.{first_fault}
+use Rattle.ring_survey.proofs.Sound.{sound}
 use Rattle.region.proofs.districts.District.strips.Goals as goal
 
 pub strips_of-requires-clause-few : goal.strips_of-requires-clause-few

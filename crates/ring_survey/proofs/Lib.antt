@@ -1,0 +1,4 @@
+pub mod Counting
+pub mod Sound
+pub mod Reach
+pub mod EachLemmas
