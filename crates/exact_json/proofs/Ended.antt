@@ -1,8 +1,8 @@
 -- A byte after a value has ended.
 use Rattle.std.proofs.Common.{◌≡◌, ℕ, Bool, true, false, cond, List, [], ◌∷◌, ◌++◌, Option, Some, None, refl, sym, ap, subst, inl, inr, ◌==◌}
 use Rattle.std.proofs.lemmas.Bool.{eqb-true}
-use Rattle.exact_json.specs.Ascii as ascii
-use Rattle.exact_json.specs.Ascii.{is_blank}
+use Rattle.json_character.specs.Ascii as ascii
+use Rattle.json_character.specs.Ascii.{is_blank}
 use Rattle.exact_json.specs.Limits.{Limits}
 use Rattle.exact_json.specs.Machine.{Frame, in_list, in_table, State, value, name, after_item, after_member, done, ended, step_ended}
 use Rattle.exact_json.specs.Tree.{Tree, list, table, Trees, item, no_item, Pairs, pair, no_pair, Entry, items_before, pairs_before, list_of, table_of}

@@ -1,15 +1,16 @@
 -- From every state that the machine comes to, some bytes complete a text.
 use Rattle.std.proofs.Common.{◌≡◌, ℕ, ◌+◌, ◌≤◌, true, false, List, [], ◌∷◌, ◌++◌, length, refl, inl, inr, arith}
-use Rattle.exact_json.specs.Ascii as ascii
+use Rattle.json_character.specs.Ascii as ascii
 use Rattle.exact_json.specs.Limits.{Limits}
-use Rattle.exact_json.specs.Machine.{Frame, Numeral, Phase, after_minus, after_zero, in_whole, after_point, in_fraction, after_letter, after_sign, in_exponent, Role, State, start, mark, value, first_item, first_name, name, colon, after_item, after_member, word, numeral, characters, done}
+use Rattle.exact_json.specs.Machine.{Frame, Numeral, Phase, after_minus, after_zero, in_whole, after_point, in_fraction, after_letter, after_sign, in_exponent, Role, State, start, mark, value, first_item, first_name, name, colon, after_item, after_member, word, numeral, characters, done, Within, plain, escape, unit, high, high_escape, low, tail}
 use Rattle.exact_json.specs.Grammar.{Unmarked}
-use Rattle.exact_json.specs.Pieces.{Is, Byte}
+use Rattle.json_character.specs.Pieces.{Is, Byte}
 use Rattle.std.specs.Str.{encode_utf8_all}
 use Rattle.exact_json.specs.Tree.{Tree, null, number, no_item, no_pair, list_of, table_of}
-use Rattle.exact_json.specs.Within.{Within, plain, escape, unit, high, high_escape, low, tail, is_begun}
-use Rattle.exact_json.specs.declared.decimal.Decimal.{Decimal}
-use Rattle.exact_json.proofs.Finish.{Ending, close, nulled, null_value, name_value, text_end, word_front, part_end}
+use Rattle.json_character.specs.Within.{is_begun}
+use Rattle.exact_decimal.specs.declared.decimal.Decimal.{Decimal}
+use Rattle.exact_json.proofs.Finish.{Ending, close, nulled, null_value, name_value, text_end, word_front}
+use Rattle.json_character.proofs.CharacterEnds.{part_end}
 use Rattle.exact_json.proofs.Left.{CharactersTo, Completes, NumeralTo, finished}
 use Rattle.exact_json.proofs.Sound.{IsSound}
 

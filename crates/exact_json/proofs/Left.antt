@@ -1,19 +1,17 @@
 -- What may be left for the machine, state by state: the grammar of what is still to come.
-use Rattle.std.proofs.Common.{◌≡◌, ℕ, zero, suc, ◌+◌, Bool, true, false, ◌||◌, List, [], ◌∷◌, ◌++◌, length, Option, Some, ◌-ℤ◌, pos}
+use Rattle.std.proofs.Common.{◌≡◌, ℕ, suc, ◌+◌, Bool, true, false, ◌||◌, List, [], ◌∷◌, ◌++◌, length, Option, Some, ◌-ℤ◌, pos}
 use Rattle.std.specs.Int.Digits.{number_from_digits}
 use Rattle.std.specs.Str.{encode_utf8_all}
-use lib.Utf8.{scalar}
-use Rattle.std.proofs.Common.{◌≤◌, ◌<◌, ◌*◌, ◌-◌}
-use Rattle.exact_json.specs.Ascii as ascii
-use Rattle.exact_json.specs.Decimals.{held, signed, significant}
+use Rattle.json_character.specs.Ascii as ascii
+use Rattle.exact_decimal.specs.Decimals.{held, signed, significant}
 use Rattle.exact_json.specs.Grammar.{Value, Items, MoreItems, Members, MoreMembers, Fraction, Exponent, Sign, IsWhole, IsJsonBy, Unmarked}
 use Rattle.exact_json.specs.Limits.{Limits}
-use Rattle.exact_json.specs.Machine.{Frame, in_list, in_table, Numeral, Phase, after_minus, after_zero, in_whole, after_point, in_fraction, after_letter, after_sign, in_exponent, Role, as_value, as_name, State, start, mark, value, first_item, first_name, name, colon, after_item, after_member, word, numeral, characters, done}
-use Rattle.exact_json.specs.Pieces.{Is, AtEnd, Byte, Word, Digits, Blanks, HexDigits}
-use Rattle.exact_json.specs.Texts.{Quoted, Characters, Character, Escape, Unit16, LowHalf, is_high_surrogate}
+use Rattle.json_character.proofs.CharacterRests.{CharacterRest}
+use Rattle.exact_json.specs.Machine.{Frame, in_list, in_table, Numeral, Phase, after_minus, after_zero, in_whole, after_point, in_fraction, after_letter, after_sign, in_exponent, Role, as_value, as_name, State, start, mark, value, first_item, first_name, name, colon, after_item, after_member, word, numeral, characters, done, Within, plain}
+use Rattle.json_character.specs.Pieces.{Is, AtEnd, Byte, Word, Digits, Blanks}
+use Rattle.json_character.specs.Texts.{Quoted, Characters}
 use Rattle.exact_json.specs.Tree.{Tree, list, table, text, number, Trees, Pairs, Entry, items_before, pairs_before}
-use Rattle.exact_json.specs.Within.{Within, plain, escape, unit, high, high_escape, low, tail}
-use Rattle.exact_json.specs.declared.decimal.Decimal.{Decimal}
+use Rattle.exact_decimal.specs.declared.decimal.Decimal.{Decimal}
 
 -- after the value v within the frames
 abbrev pub Closes : Limits → List Frame → Tree → Tree → List ℕ → Type 0
@@ -66,24 +64,6 @@ NumeralTo after_sign n d xs ys = (x : ℕ) × (e : List ℕ) × Digits (x ∷ e)
 NumeralTo in_exponent n d xs ys = (e : List ℕ) × Digits e (Is ys) xs × (finished n [] [] false e ≡ d)
 
 -- Texts.
-
--- n bytes that carry on a character from the bits v
-abbrev pub TailBytes : ℕ → ℕ → (ℕ → List ℕ → Type 0) → List ℕ → Type 0
-TailBytes zero v K xs = K v xs
-TailBytes (suc n) v K [] = ⊥
-TailBytes (suc n) v K (x ∷ xs) = (128 ≤ x) × (x < 192) × TailBytes n (64 * v + (x - 128)) K xs
-
-abbrev pub IsFrom : ℕ → ℕ → (List ℕ → Type 0) → ℕ → List ℕ → Type 0
-IsFrom least c K u xs = (u ≡ c) × (least ≤ c) × (scalar c ≡ true) × K xs
-
-abbrev pub CharacterRest : Within → ℕ → (List ℕ → Type 0) → List ℕ → Type 0
-CharacterRest plain c K xs = Character c K xs
-CharacterRest escape c K xs = Escape c K xs
-CharacterRest (unit n v) c K xs = HexDigits (suc n) v (Unit16 c K) xs
-CharacterRest (high h) c K xs = (is_high_surrogate h ≡ true) × Byte ascii.backslash (Byte ascii.letter_u (HexDigits 4 0 (LowHalf h c K))) xs
-CharacterRest (high_escape h) c K xs = (is_high_surrogate h ≡ true) × Byte ascii.letter_u (HexDigits 4 0 (LowHalf h c K)) xs
-CharacterRest (low n v h) c K xs = (is_high_surrogate h ≡ true) × HexDigits (suc n) v (LowHalf h c K) xs
-CharacterRest (tail least n v) c K xs = TailBytes (suc n) v (IsFrom least c K) xs
 
 -- after the text s
 abbrev pub ClosesText : Limits → Role → List ℕ → List Frame → Tree → List ℕ → Type 0

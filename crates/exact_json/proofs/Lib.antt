@@ -1,4 +1,3 @@
-pub mod Cuts
 pub mod Left
 pub mod Ended
 pub mod NumberSteps
@@ -7,17 +6,11 @@ pub mod Runs
 pub mod Sound
 pub mod Steps
 pub mod TextSteps
-pub mod Withins
-pub mod Worth
-pub mod DigitsLemmas
 pub mod Finish
 pub mod Ends
 pub mod Kept
 pub mod Faults
 pub mod ReaderRuns
-pub mod HeldLemmas
 pub mod Allowed
 pub mod Readings
 pub mod Oks
-pub mod Characters
-pub mod CharacterSteps

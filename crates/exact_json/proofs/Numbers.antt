@@ -2,14 +2,14 @@
 use Rattle.std.proofs.Common.{◌≡◌, ℕ, suc, ◌+◌, ◌-◌, Bool, true, false, cond, ◌||◌, List, [], ◌∷◌, ◌++◌, length, refl, sym, ap, subst, ◌∙◌, inl, inr, ◌==◌, append_assoc, append-nil, arith, pos, ◌-ℤ◌}
 use Rattle.std.proofs.lemmas.Bool.{eqb-true}
 use Rattle.std.specs.Int.Digits.{number_from_digits}
-use Rattle.exact_json.specs.Ascii as ascii
-use Rattle.exact_json.specs.Ascii.{is_blank, is_digit, is_exponent_letter}
-use Rattle.exact_json.specs.Digits.{with_digit}
-use Rattle.exact_json.specs.Decimals.{held, signed, significant}
+use Rattle.json_character.specs.Ascii as ascii
+use Rattle.json_character.specs.Ascii.{is_blank, is_digit, is_exponent_letter}
+use Rattle.exact_decimal.specs.Digits.{with_digit}
+use Rattle.exact_decimal.specs.Decimals.{held, signed, significant}
 use Rattle.exact_json.specs.Limits.{Limits}
 use Rattle.exact_json.specs.Machine.{Frame, in_list, in_table, Numeral, with_whole, with_fraction, with_exponent, with_minus, decimal_so_far}
 use Rattle.exact_json.specs.Tree.{Tree, no_item, item, no_pair, pair}
-use Rattle.exact_json.specs.declared.decimal.Decimal.{Decimal}
+use Rattle.exact_decimal.specs.declared.decimal.Decimal.{Decimal}
 use Rattle.exact_json.proofs.Left.{Closes, joined, finished}
 
 -- Which bytes pass a test.

@@ -2,17 +2,17 @@
 use Rattle.std.proofs.Common.{◌≡◌, ℕ, ◌+◌, Bool, true, false, List, [], ◌∷◌, ◌++◌, length, Option, refl, sym, ap, subst, ◌∙◌, inl, inr, ◌==◌, codes, zero-add, eq-eqb, pos, ◌-ℤ◌}
 use Rattle.std.specs.Int.Digits.{number_from_digits}
 use Rattle.std.proofs.lemmas.Bool.{eqb-true}
-use Rattle.exact_json.specs.Ascii as ascii
-use Rattle.exact_json.specs.Ascii.{is_blank, is_digit}
-use Rattle.exact_json.specs.Decimals.{significant, held, signed}
+use Rattle.json_character.specs.Ascii as ascii
+use Rattle.json_character.specs.Ascii.{is_blank, is_digit}
+use Rattle.exact_decimal.specs.Decimals.{significant, held, signed}
 use Rattle.exact_json.specs.Grammar.{Value, Parts, decimal_of_parts, IsWhole, Fraction, Exponent, Minus, Unmarked}
 use Rattle.exact_json.specs.Limits.{Limits}
-use Rattle.exact_json.specs.Machine.{Frame, in_list, in_table, after_minus, State, start, mark, value, first_item, first_name, name, colon, after_item, after_member, word, numeral, characters, done, as_value, as_name, ended, no_numeral, step_ended, step_first_digit, step_begin, step_name, step_value, step}
-use Rattle.exact_json.specs.Pieces.{Is, Digits, Blanks}
-use Rattle.exact_json.specs.Texts.{Quoted}
+use Rattle.exact_json.specs.Machine.{Frame, in_list, in_table, after_minus, State, start, mark, value, first_item, first_name, name, colon, after_item, after_member, word, numeral, characters, done, as_value, as_name, ended, no_numeral, step_ended, step_first_digit, step_begin, step_name, step_value, step, plain}
+use Rattle.json_character.specs.Pieces.{Is, Digits, Blanks}
+use Rattle.json_character.specs.Texts.{Quoted}
 use Rattle.exact_json.specs.Tree.{Tree, null, flag, number, text, list, table, item, no_item, pair, no_pair, Entry, list_of, table_of}
-use Rattle.exact_json.specs.Within.{plain, is_begun}
-use Rattle.exact_json.specs.declared.decimal.Decimal.{Decimal}
+use Rattle.json_character.specs.Within.{is_begun}
+use Rattle.exact_decimal.specs.declared.decimal.Decimal.{Decimal}
 use Rattle.exact_json.proofs.Ended.{comes_cond, comes_some, comes_none, goes_true, goes_false, ended-Closes, Closes-ended, goes-ended, comes-ended, goes-after_item, comes-after_item, goes-after_member, comes-after_member}
 use Rattle.exact_json.proofs.Left.{Closes, AfterName, Completes, Goes, Comes, NumeralTo, finished}
 use Rattle.exact_json.proofs.NumberSteps.{Owes, MayEnd, goes_first, comes_first, goes-numeral, comes-numeral}

@@ -4,17 +4,18 @@ use Rattle.std.proofs.lemmas.Bool.{eqb-true, and_parts}
 use Rattle.std.specs.Char.{encode_utf8}
 use Rattle.std.specs.Str.{encode_utf8_all}
 use lib.Utf8.{scalar}
-use Rattle.exact_json.specs.Ascii as ascii
+use Rattle.json_character.specs.Ascii as ascii
 use Rattle.exact_json.specs.Limits.{Limits}
-use Rattle.exact_json.specs.Machine.{Frame, Role, as_value, as_name, characters, ended_text, step_outcome, step_characters}
-use Rattle.exact_json.specs.Pieces.{Is, Byte}
-use Rattle.exact_json.specs.Texts.{Character, Characters}
+use Rattle.exact_json.specs.Machine.{Frame, Role, as_value, as_name, characters, ended_text, step_outcome, step_characters, Within, plain, escape, unit, high, high_escape, low, tail, Outcome, goes_on, ends, refused}
+use Rattle.json_character.specs.Pieces.{Is, Byte}
+use Rattle.json_character.specs.Texts.{Character, Characters}
 use Rattle.exact_json.specs.Tree.{Tree, text}
-use Rattle.exact_json.specs.Within.{Within, plain, escape, unit, high, high_escape, low, tail, Outcome, goes_on, ends, refused, after_byte, is_begun}
-use Rattle.exact_json.proofs.CharacterSteps.{word_not, leads_byte, led_byte, LeadsBegun, leads_begun, is_inside, NoQuote}
-use Rattle.exact_json.proofs.Characters.{Leads}
+use Rattle.json_character.specs.Within.{after_byte, is_begun}
+use Rattle.json_character.proofs.CharacterSteps.{word_not, leads_byte, led_byte, LeadsBegun, leads_begun, is_inside, NoQuote}
+use Rattle.json_character.proofs.Characters.{Leads}
 use Rattle.exact_json.proofs.Ended.{comes_cond, comes_some, comes_none, goes_false, ended-Closes, Closes-ended}
-use Rattle.exact_json.proofs.Left.{CharacterRest, ClosesText, CharactersTo, Completes, Goes, Comes}
+use Rattle.json_character.proofs.CharacterRests.{CharacterRest}
+use Rattle.exact_json.proofs.Left.{ClosesText, CharactersTo, Completes, Goes, Comes}
 
 module _ (limits : Limits) (role : Role) (s : List ℕ) (frames : List Frame) (t : Tree) where
   pub Rest : List ℕ → List ℕ → List ℕ → Type 0

@@ -1,7 +1,7 @@
 -- One byte of the machine, with the limits.
 use Rattle.std.specs.Prelude.{◌≡◌, ℕ, ◌+◌, ◌≤◌, true, false, Some, None, length, nat_lt, nat_le}
 use Rattle.exact_json.specs.Machine.{State, first_item, first_name, numeral, characters, step, is_within}
-use Rattle.exact_json.specs.Within.{is_begun}
+use Rattle.json_character.specs.Within.{is_begun}
 use Rattle.exact_json.specs.declared.fault.JsonFault.{JsonFault}
 use Rattle.exact_json.specs.declared.fault.JsonFault.TheVariants.{NotJson, TooDeep, LongNumber, NoMemory}
 

@@ -1,13 +1,13 @@
 -- JSON's grammar (RFC 8259), in UTF-8, over the plain tree.
 use Rattle.std.specs.Prelude.{◌≡◌, ℕ, suc, ◌==◌, Bool, true, false, List, [], ◌∷◌, ◌++◌, ◌⊎◌, length, codes}
-use Rattle.exact_json.specs.Ascii as ascii
-use Rattle.exact_json.specs.Ascii.{is_exponent_letter}
-use Rattle.exact_json.specs.Decimals.{decimal_of}
+use Rattle.json_character.specs.Ascii as ascii
+use Rattle.json_character.specs.Ascii.{is_exponent_letter}
+use Rattle.exact_decimal.specs.Decimals.{decimal_of}
 use Rattle.exact_json.specs.Limits.{Limits, no_limits, limits_before}
-use Rattle.exact_json.specs.Pieces.{Is, AtEnd, Byte, OneOf, Word, Digits, Blanks}
-use Rattle.exact_json.specs.Texts.{Quoted}
+use Rattle.json_character.specs.Pieces.{Is, AtEnd, Byte, OneOf, Word, Digits, Blanks}
+use Rattle.json_character.specs.Texts.{Quoted}
 use Rattle.exact_json.specs.Tree.{Tree, null, flag, number, text, list, table, Trees, no_item, item, Pairs, no_pair, pair}
-use Rattle.exact_json.specs.declared.decimal.Decimal.{Decimal}
+use Rattle.exact_decimal.specs.declared.decimal.Decimal.{Decimal}
 
 -- Numbers (section 6).
 

@@ -1,16 +1,9 @@
-pub mod Ascii
-pub mod Decimals
-pub mod Digits
 pub mod Grammar
 pub mod Advance
 pub mod Read
 pub mod Readings
 pub mod Seen
-pub mod Texts
 pub mod Limits
 pub mod Machine
-pub mod Micro
-pub mod Pieces
-pub mod Within
 pub mod Tree
 pub mod View

@@ -1,17 +1,18 @@
 -- The reader as a machine that takes a byte at a time. It stops at the first byte with which no JSON text begins.
-pub use Rattle.exact_json.specs.declared.numeral.Numeral.{Numeral}
-pub use Rattle.exact_json.specs.declared.numeral.Phase.{Phase}
-pub use Rattle.exact_json.specs.declared.numeral.Phase.TheVariants.{AfterMinus as after_minus, AfterZero as after_zero, InWhole as in_whole, AfterPoint as after_point, InFraction as in_fraction, AfterLetter as after_letter, AfterSign as after_sign, InExponent as in_exponent}
-use Rattle.std.specs.Prelude.{ℕ, ◌+◌, ◌-◌, Bool, true, false, cond, ◌==◌, List, [], ◌∷◌, ◌++◌, Option, Some, None, option_and_then, codes, ◌-ℤ◌, pos, nat_lt, nat_le, length}
-use Rattle.std.specs.Int.Digits.{number_from_digits}
+pub use Rattle.exact_decimal.specs.Numerals.{no_numeral, counted, with_whole, with_fraction, with_exponent, with_minus, decimal_so_far}
+pub use Rattle.exact_decimal.specs.declared.numeral.Numeral.{Numeral}
+pub use Rattle.exact_decimal.specs.declared.numeral.Phase.{Phase}
+pub use Rattle.exact_decimal.specs.declared.numeral.Phase.TheVariants.{AfterMinus as after_minus, AfterZero as after_zero, InWhole as in_whole, AfterPoint as after_point, InFraction as in_fraction, AfterLetter as after_letter, AfterSign as after_sign, InExponent as in_exponent}
+pub use Rattle.json_character.specs.declared.within.Within.{Within}
+pub use Rattle.json_character.specs.declared.within.Within.TheVariants.{Plain as plain, Escape as escape, Unit as unit, High as high, HighEscape as high_escape, Low as low, Tail as tail}
+pub use Rattle.json_character.specs.declared.within.Outcome.{Outcome}
+pub use Rattle.json_character.specs.declared.within.Outcome.TheVariants.{GoesOn as goes_on, Ends as ends, Refused as refused}
+use Rattle.std.specs.Prelude.{ℕ, Bool, true, false, cond, ◌==◌, List, [], ◌∷◌, ◌++◌, Option, Some, None, option_and_then, codes, nat_lt, nat_le, length}
 use Rattle.std.specs.Char.{encode_utf8}
-use Rattle.exact_json.specs.Ascii as ascii
-use Rattle.exact_json.specs.Ascii.{is_blank, is_digit, is_exponent_letter}
-use Rattle.exact_json.specs.Decimals.{held, signed}
-use Rattle.exact_json.specs.Digits.{with_digit}
+use Rattle.json_character.specs.Ascii as ascii
+use Rattle.json_character.specs.Ascii.{is_blank, is_digit, is_exponent_letter}
 use Rattle.exact_json.specs.Tree.{Tree, null, flag, number, text, Entry, list_of, table_of}
-use Rattle.exact_json.specs.Within.{Within, plain, Outcome, goes_on, ends, refused, after_byte}
-use Rattle.exact_json.specs.declared.decimal.Decimal.{Decimal}
+use Rattle.json_character.specs.Within.{after_byte}
 
 -- a list or a table that is open, and waits for a value inside it
 pub data Frame : Type 0 where
@@ -60,28 +61,6 @@ step_ended (after_member es frames) b =
 step_ended _ b = None
 
 -- Numbers.
-
-abbrev pub no_numeral : Numeral
-no_numeral = record { negative = false; digits = []; places = 0; exponent_negative = false; exponent = []; length = 0 }
-
-abbrev pub counted : Numeral → Numeral
-counted n = record n { length = n.length + 1 }
-
-abbrev pub with_whole : Numeral → ℕ → Numeral
-with_whole n b = record n { digits = with_digit n.digits (b - 48); length = n.length + 1 }
-
-abbrev pub with_fraction : Numeral → ℕ → Numeral
-with_fraction n b = record n { digits = with_digit n.digits (b - 48); places = n.places + 1; length = n.length + 1 }
-
-abbrev pub with_exponent : Numeral → ℕ → Numeral
-with_exponent n b = record n { exponent = n.exponent ++ (b - 48) ∷ []; length = n.length + 1 }
-
-abbrev pub with_minus : Numeral → Numeral
-with_minus n = record n { exponent_negative = true; length = n.length + 1 }
-
-abbrev pub decimal_so_far : Numeral → Decimal
-decimal_so_far n =
-    record { negative = n.negative; digits = n.digits; exponent = held (signed n.exponent_negative (number_from_digits 10 n.exponent) -ℤ pos n.places) }
 
 -- the first digit of a number
 abbrev pub step_first_digit : Numeral → List Frame → ℕ → Option State

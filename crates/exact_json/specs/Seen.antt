@@ -1,10 +1,10 @@
 -- The machine's state as the reader keeps it.
 use Rattle.std.specs.Prelude.{◌≡◌, ℕ, true, false, List, map, reverse, Option, Some, None, option_map, Result, IfOk, string_bytes, ◌++◌, ◌<◌, ◌≤◌, ◌^◌}
 use Rattle.std.specs.Char.{encode_utf8}
-use Rattle.exact_json.specs.Within.{Within, plain, Outcome, goes_on, ends, refused, is_begun}
+use Rattle.json_character.specs.Within.{is_begun}
 use Rattle.no_memory.specs.declared.NoMemory.{NoMemory}
 use Rattle.exact_json.specs.Machine as machine
-use Rattle.exact_json.specs.Machine.{Numeral, State}
+use Rattle.exact_json.specs.Machine.{Numeral, State, Within, plain, Outcome, goes_on, ends, refused}
 use Rattle.exact_json.specs.Tree.{Tree, null, flag}
 use Rattle.exact_json.specs.View.{tree_of, entry_of}
 use Rattle.exact_json.specs.declared.machine.Frame.{Frame}

@@ -1,6 +1,6 @@
 -- The plain tree of a JSON value (RFC 8259, section 3).
 use Rattle.std.specs.Prelude.{ℕ, Bool, List, [], ◌∷◌}
-use Rattle.exact_json.specs.declared.decimal.Decimal.{Decimal}
+use Rattle.exact_decimal.specs.declared.decimal.Decimal.{Decimal}
 
 -- a text is its bytes, a list its values, and a table its pairs of a name and a value, in order
 mutual

@@ -1,17 +1,16 @@
 //! The reader, a byte at a time.
 
-ghost use Rattle.std.specs.Prelude.{◌≡◌, ◌≢◌, ◌<◌, ◌^◌, ℕ, List, [], Some, length, IfOk, IsTrue, map, option_map, string_bytes};
-ghost use Rattle.exact_json.specs.Ascii as ascii;
+ghost use Rattle.std.specs.Prelude.{◌≡◌, ◌≢◌, ◌<◌, ◌^◌, ℕ, List, [], ◌∷◌, Some, length, IfOk, OnOk, IsTrue, map, option_map, string_bytes};
+ghost use Rattle.json_character.specs.Ascii as ascii;
 ghost use Rattle.exact_json.specs.Machine as spec;
 ghost use Rattle.exact_json.specs.Seen.{frames_of, state_of, literal_of, seen_with, AfterOutcome, IsReady, Steps};
-ghost use Rattle.exact_json.specs.Within as within_spec;
+ghost use Rattle.json_character.specs.Within as within_spec;
 ghost use Rattle.exact_json.specs.Tree.{number, text as text_tree, list_of, table_of};
 ghost use Rattle.exact_json.specs.View.{tree_of, entry_of};
 
-use crate::decimal::Decimal;
-use crate::numeral::{Numeral, Phase, first_phase};
 use crate::value::{Json, JsonList, JsonTable, JsonText, Member};
-use crate::within::{Outcome, Within};
+use exact_decimal::{Decimal, Numeral, Phase, first_phase};
+use json_character::{Outcome, Within};
 use no_memory::NoMemory;
 use sqlite_items::Items;
 use std::alloc::Global;
@@ -162,6 +161,17 @@ fn after_member<'a>(
     }
 }
 
+/// A byte after the text's value.
+fn after_done<'a>(value: Json, b: u8) -> Option<Next<'a>>
+    ensures { (n : spec.Numeral) (s : List ℕ) (fs : List spec.Frame) → option_map (state_of n s fs) result ≡ spec.step_ended (spec.done (tree_of value)) b }
+{
+    if is_blank(b) {
+        Some(Next::Done(value))
+    } else {
+        None
+    }
+}
+
 /// A byte after a value has ended.
 fn after_ended<'a>(
     frames: &mut Vec<Frame>,
@@ -171,7 +181,7 @@ fn after_ended<'a>(
     ensures { IfOk result (λ r. (n : spec.Numeral) (s : List ℕ) → option_map (state_of n s (frames_of frames.new.items)) r ≡ spec.step_ended (state_of n s (frames_of frames.old.items) next.entry) b) }
 {
     match next {
-        Next::Done(value) if is_blank(b) => Ok(Some(Next::Done(value))),
+        Next::Done(value) => Ok(after_done(value, b)),
         Next::AfterItem(items) => after_item(frames, items, b),
         Next::AfterMember(members) => after_member(frames, members, b),
         _ => Ok(None),
@@ -468,6 +478,14 @@ fn at_start<'a>(alloc: Global, machine: &mut Machine, b: u8) -> Result<Option<Ne
     }
 }
 
+/// A list that has no item yet is open.
+fn open_list(alloc: Global, frames: &mut Vec<Frame>) -> Result<(), NoMemory>
+    ensures { OnOk result (frames_of frames.new.items ≡ spec.in_list [] ∷ frames_of frames.old.items) }
+{
+    frames.push(Frame::List(Items::new(alloc)))?;
+    Ok(())
+}
+
 /// A byte after the bracket of a list.
 fn first_item<'a>(alloc: Global, machine: &mut Machine, b: u8) -> Result<Option<Next<'a>>, NoMemory>
     ensures { IfOk result (λ r. option_map (seen_with machine.new) r ≡ spec.step (spec.first_item (frames_of machine.old.frames.items)) b) }
@@ -478,7 +496,7 @@ fn first_item<'a>(alloc: Global, machine: &mut Machine, b: u8) -> Result<Option<
         let list = list_value(Items::new(alloc));
         Ok(Some(ended(&mut machine.frames, list)?))
     } else {
-        machine.frames.push(Frame::List(Items::new(alloc)))?;
+        open_list(alloc, &mut machine.frames)?;
         begin(alloc, &mut machine.numeral, &mut machine.text, b)
     }
 }
@@ -573,8 +591,7 @@ pub fn step<'a>(
         Next::Number(phase) => after_number(alloc, machine, phase, b),
         Next::Text(within) => after_text(alloc, machine, within, b),
         Next::NameText(members, within) => after_name_text(alloc, machine, members, within, b),
-        Next::Done(value) if is_blank(b) => Ok(Some(Next::Done(value))),
-        Next::Done(_) => Ok(None),
+        Next::Done(value) => Ok(after_done(value, b)),
     }
 }
 

@@ -1,7 +1,7 @@
 ghost use Rattle.std.specs.Prelude.{◌≡◌, ◌<◌, length, string_bytes, slice_get, option_map};
 
-use crate::decimal::Decimal;
 use crate::place::{item_at, member_at, name_of, value_of};
+use exact_decimal::Decimal;
 use sqlite_items::Items;
 use std::marker::Model;
 

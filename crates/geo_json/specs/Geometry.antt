@@ -1,7 +1,7 @@
 -- The polygons of a district: in the forms of GeoJSON (RFC 7946, section 3) that are read, and as lists of positions alone.
 use Rattle.std.specs.Prelude.{◌≡◌, ℤ, ℕ, Bool, true, false, if◌then◌else◌, List, [], ◌∷◌, Option, Some, None, option_map, option_and_then, Result, Ok, Err, codes, bytes_eq, find}
 use Rattle.std.specs.List.{list_any}
-use Rattle.exact_json.specs.Micro.{micro_of, whole_of}
+use Rattle.exact_decimal.specs.Micro.{micro_of, whole_of}
 use Rattle.exact_json.specs.Tree.{Tree, Entry}
 use Rattle.geo_json.specs.Lookup.{number_in, text_in, list_in, object_in, Found, once, again, find_member}
 use Rattle.geo_json.specs.declared.geometry.Form.{Form}

@@ -4,9 +4,9 @@ use Rattle.std.specs.Prelude.{int_le, unsigned_abs}
 use Rattle.std.specs.Option.{ok_or}
 use Rattle.std.proofs.lemmas.Int.{ints}
 use Rattle.std.proofs.lemmas.Option.{cond_some}
-use Rattle.exact_json.specs.Micro.{whole_of}
+use Rattle.exact_decimal.specs.Micro.{whole_of}
 use Rattle.exact_json.specs.Tree.{Tree, Entry}
-use Rattle.exact_json.specs.declared.decimal.Decimal.{Decimal}
+use Rattle.exact_decimal.specs.declared.decimal.Decimal.{Decimal}
 use Rattle.exact_json.specs.declared.fault.JsonFault.{JsonFault}
 use Rattle.method_table.specs.declared.method.Asr.{Asr}
 use Rattle.method_table.specs.declared.method.Method.{Method}

@@ -2,7 +2,7 @@
 use Rattle.std.specs.Prelude.{ℕ, ℤ, pos, neg_ℤ, ◌+ℤ◌, int_le, unsigned_abs, ◌&&◌, if◌then◌else◌, List, [], ◌∷◌, Option, Some, None, option_map, option_and_then, Result, Ok, Err, find, bytes_eq}
 use Rattle.std.specs.Option.{ok_or, option_zip}
 use Rattle.exact_json.specs.Tree.{Tree}
-use Rattle.exact_json.specs.declared.decimal.Decimal.{Decimal}
+use Rattle.exact_decimal.specs.declared.decimal.Decimal.{Decimal}
 use Rattle.method_table.specs.Method.{asr_word, method_of}
 use Rattle.method_table.specs.declared.method.Asr.{Asr}
 use Rattle.method_table.specs.declared.method.Asr.TheVariants.{Standard, Hanafi}
@@ -16,7 +16,7 @@ use Rattle.geo_json.specs.Lookup.{list_in, number_in, text_in}
 use Rattle.ring_survey.specs.Each.{each_of}
 use Rattle.order_rule.specs.Late.{may_be_late}
 use Rattle.order_rule.specs.Offsets.{last_day, offsets_of}
-use Rattle.exact_json.specs.Micro.{whole_of}
+use Rattle.exact_decimal.specs.Micro.{whole_of}
 use Rattle.order_reader.specs.declared.fault.Member.{Member}
 use Rattle.order_reader.specs.declared.fault.Member.TheVariants.{From, Days, Method as MethodName, Asr as AsrName, Zone as ZoneName, Height, LateIsha, Sun, Night}
 use Rattle.order_reader.specs.declared.fault.OrderFault.{OrderFault}

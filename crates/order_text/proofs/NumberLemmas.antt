@@ -10,12 +10,12 @@ use Rattle.std.specs.Char.{is_ascii_digit}
 use Rattle.std.specs.Fmt.{decimal, signed_decimal}
 use Rattle.std.specs.Int.Digits.{number_from_digits}
 use Rattle.std.specs.List.{list_all}
-use Rattle.exact_json.specs.Decimals.{decimal_of, significant}
+use Rattle.exact_decimal.specs.Decimals.{decimal_of, significant}
 use Rattle.exact_json.specs.Grammar.{IsWhole, Number}
 use Rattle.exact_json.specs.Limits.{limits_before}
-use Rattle.exact_json.specs.Micro.{no_greater, whole_of}
-use Rattle.exact_json.specs.Pieces.{Digits}
-use Rattle.exact_json.specs.declared.decimal.Decimal.{Decimal}
+use Rattle.exact_decimal.specs.Micro.{no_greater, whole_of}
+use Rattle.json_character.specs.Pieces.{Digits}
+use Rattle.exact_decimal.specs.declared.decimal.Decimal.{Decimal}
 
 -- the digit that a byte writes
 abbrev pub digit : ℕ → ℕ

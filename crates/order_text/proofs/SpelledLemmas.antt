@@ -7,11 +7,11 @@ use Rattle.std.specs.Char.{encode_utf8}
 use Rattle.std.specs.Fmt.{signed_decimal}
 use Rattle.std.specs.List.{list_all}
 use Rattle.std.specs.Str.{encode_utf8_all}
-use Rattle.exact_json.specs.Ascii as ascii
+use Rattle.json_character.specs.Ascii as ascii
 use Rattle.exact_json.specs.Grammar.{Value, Items, MoreItems, Members, MoreMembers}
 use Rattle.exact_json.specs.Limits.{limits_before}
-use Rattle.exact_json.specs.Pieces.{Is, Byte, Blanks}
-use Rattle.exact_json.specs.Texts.{Quoted, Characters, is_plain}
+use Rattle.json_character.specs.Pieces.{Is, Byte, Blanks}
+use Rattle.json_character.specs.Texts.{Quoted, Characters, is_plain}
 use Rattle.exact_json.specs.Tree.{Tree, number, text, no_item, no_pair, Entry, list_of, table_of, items_before, pairs_before}
 use Rattle.order_text.specs.Line.{items_text, list_text, more_text}
 use Rattle.order_text.proofs.NumberLemmas.{spelled_number, whole_decimal}

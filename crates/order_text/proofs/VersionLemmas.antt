@@ -8,7 +8,7 @@ use Rattle.exact_json.specs.Tree.{Tree, Entry}
 use Rattle.night_rule.specs.declared.rule.NightRule.{NightRule}
 use Rattle.order_reader.proofs.GivenSteps.{gave}
 use Rattle.order_rule.specs.Asked.{Asked}
-use Rattle.exact_json.specs.Micro.{whole_of}
+use Rattle.exact_decimal.specs.Micro.{whole_of}
 use Rattle.method_table.specs.declared.method.Method.{Method}
 use Rattle.order_reader.specs.Gives.{◌>>=◌}
 use Rattle.geo_json.specs.Lookup.{number_in, object_in}

@@ -5,8 +5,8 @@ use Rattle.std.specs.Fmt.{digits, signed_decimal}
 use Rattle.exact_json.specs.Grammar.{IsJsonWithin, Value}
 use Rattle.exact_json.specs.Limits.{limits_before}
 use Rattle.exact_json.specs.Tree.{Tree, table_of}
-use Rattle.exact_json.specs.Digits.{leading}
-use Rattle.exact_json.specs.Micro.{micro_of, whole_of}
+use Rattle.exact_decimal.specs.Digits.{leading}
+use Rattle.exact_decimal.specs.Micro.{micro_of, whole_of}
 use Rattle.geo_json.specs.Geometry.{form_in, geometry_of, has_doubles, member_in, shape_in}
 use Rattle.geo_json.specs.Lookup.{values_named}
 use Rattle.jiff_core.specs.Calendar.{day_count, days_from_civil, days_of_months, days_of_years}

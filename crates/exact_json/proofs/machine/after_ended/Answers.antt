@@ -1,4 +1,8 @@
+use Rattle.exact_json.specs.Seen.{frames_of}
 use Rattle.exact_json.proofs.machine.after_ended.Goals as goal
+
+pub returns-in-Done : goal.returns-in-Done
+returns-in-Done c = rw c.in-Done.is (λ n s. c.after_done.ensures n s (frames_of c.args.frames.now.items))
 
 pub returns-in-AfterItem : goal.returns-in-AfterItem
 returns-in-AfterItem c = rw c.in-AfterItem.is c.after_item.ensures

@@ -33,3 +33,6 @@ returns-in-Word c =
     (if_ok_at c.after_word.result
     (λ (n : spec.Numeral) (s : List ℕ) (r : Option Next). option_map (state_of n s (frames_of c.after_word.new.frames.items)) r ≡ spec.step (spec.word c.in-Word.word.now (literal_of c.in-Word.literal) (frames_of c.args.machine.now.frames.items)) c.args.b)
     c.args.machine.now.numeral (string_bytes c.args.machine.now.text) c.after_word.ensures)
+
+pub returns-in-Done : goal.returns-in-Done
+returns-in-Done c = rw c.in-Done.is (c.after_done.ensures c.args.machine.now.numeral (string_bytes c.args.machine.now.text) (frames_of c.args.machine.now.frames.items))

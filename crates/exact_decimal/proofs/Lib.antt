@@ -1,0 +1,4 @@
+pub mod Cuts
+pub mod Worth
+pub mod DigitsLemmas
+pub mod HeldLemmas

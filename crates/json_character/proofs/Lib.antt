@@ -1,0 +1,5 @@
+pub mod Withins
+pub mod CharacterRests
+pub mod Characters
+pub mod CharacterSteps
+pub mod CharacterEnds
