@@ -6,7 +6,7 @@ use Rattle.cell_split.specs.declared.cell.Cell.{Cell}
 use Rattle.cell_split.specs.declared.verdict.Leaf.{Leaf}
 use Rattle.cell_split.specs.declared.verdict.Verdict.{Verdict}
 use Rattle.cell_split.specs.Cells.{IsCellOf}
-use Rattle.cell_split.specs.Entries.{entry_by, entry_of, first_open, greatest_word, is_open_above, last_word, open_word, refuted_word}
+use Rattle.cell_split.specs.Entries.{entry_by, entry_of, first_open, greatest_ordinal, is_open_above, last_ordinal, open_ordinal, refuted_ordinal}
 use Rattle.cell_split.specs.Judges.{Content}
 use Rattle.cell_split.specs.Laws.{IsChildOf}
 use Rattle.cell_split.specs.Renumbered.{AnswersAs, JudgesOfLawfulOnesAreLawful, RenumberedTreesAreTheSame, renumbered}
@@ -50,36 +50,36 @@ leaves_below c other j k answers (suc n) cell small is =
 
 -- ---- what is said of leaves doesn't depend on the number of their problem
 
-greatest_same : (test : Leaf → Bool) (j : ℕ) (ls : List Leaf) → ((l : Leaf) → test (renumbered j l) ≡ test l) → greatest_word test (map (renumbered j) ls) ≡ greatest_word test ls
+greatest_same : (test : Leaf → Bool) (j : ℕ) (ls : List Leaf) → ((l : Leaf) → test (renumbered j l) ≡ test l) → greatest_ordinal test (map (renumbered j) ls) ≡ greatest_ordinal test ls
 greatest_same test j [] h = refl
 greatest_same test j (l ∷ ls) h =
-    ap (λ (b : Bool). max (cond b (last_word l) 0) (greatest_word test (map (renumbered j) ls))) (h l)
-    ∙ ap (max (cond (test l) (last_word l) 0)) (greatest_same test j ls h)
+    ap (λ (b : Bool). max (cond b (last_ordinal l) 0) (greatest_ordinal test (map (renumbered j) ls))) (h l)
+    ∙ ap (max (cond (test l) (last_ordinal l) 0)) (greatest_same test j ls h)
 
-refuted_same : (j : ℕ) (ls : List Leaf) → refuted_word (map (renumbered j) ls) ≡ refuted_word ls
+refuted_same : (j : ℕ) (ls : List Leaf) → refuted_ordinal (map (renumbered j) ls) ≡ refuted_ordinal ls
 refuted_same j ls = greatest_same (λ l. is_refuted l.verdict) j ls (λ l. refl)
 
 find_choice : (j : ℕ) (b : Bool) (l : Leaf) (a d : Option Leaf) → a ≡ option_map (renumbered j) d → cond b (Some (renumbered j l)) a ≡ option_map (renumbered j) (cond b (Some l) d)
 find_choice j true l a d h = refl
 find_choice j false l a d h = h
 
-first_same : (j word : ℕ) (ls : List Leaf) → first_open word (map (renumbered j) ls) ≡ option_map (renumbered j) (first_open word ls)
-first_same j word [] = refl
-first_same j word (l ∷ ls) =
-    find_choice j (is_open l.verdict && (last_word l == word)) l (first_open word (map (renumbered j) ls)) (first_open word ls) (first_same j word ls)
+first_same : (j ordinal : ℕ) (ls : List Leaf) → first_open ordinal (map (renumbered j) ls) ≡ option_map (renumbered j) (first_open ordinal ls)
+first_same j ordinal [] = refl
+first_same j ordinal (l ∷ ls) =
+    find_choice j (is_open l.verdict && (last_ordinal l == ordinal)) l (first_open ordinal (map (renumbered j) ls)) (first_open ordinal ls) (first_same j ordinal ls)
 
-entry_same_by : (j word : ℕ) (l : Option Leaf) → entry_by word (option_map (renumbered j) l) ≡ entry_by word l
-entry_same_by j word None = refl
-entry_same_by j word (Some l) = refl
+entry_same_by : (j ordinal : ℕ) (l : Option Leaf) → entry_by ordinal (option_map (renumbered j) l) ≡ entry_by ordinal l
+entry_same_by j ordinal None = refl
+entry_same_by j ordinal (Some l) = refl
 
 entry_same : (j : ℕ) (ls : List Leaf) → entry_of (map (renumbered j) ls) ≡ entry_of ls
 entry_same j ls =
-    let word = refuted_word ls in
-    let same : open_word word (map (renumbered j) ls) ≡ open_word word ls = greatest_same (is_open_above word) j ls (λ l. refl) in
-    ap (λ (w : ℕ). entry_by w (first_open (open_word w (map (renumbered j) ls)) (map (renumbered j) ls))) (refuted_same j ls)
-    ∙ (ap (λ (w : ℕ). entry_by word (first_open w (map (renumbered j) ls))) same
-    ∙ (ap (entry_by word) (first_same j (open_word word ls) ls)
-    ∙ entry_same_by j word (first_open (open_word word ls) ls)))
+    let ordinal = refuted_ordinal ls in
+    let same : open_ordinal ordinal (map (renumbered j) ls) ≡ open_ordinal ordinal ls = greatest_same (is_open_above ordinal) j ls (λ l. refl) in
+    ap (λ (w : ℕ). entry_by w (first_open (open_ordinal w (map (renumbered j) ls)) (map (renumbered j) ls))) (refuted_same j ls)
+    ∙ (ap (λ (w : ℕ). entry_by ordinal (first_open w (map (renumbered j) ls))) same
+    ∙ (ap (entry_by ordinal) (first_same j (open_ordinal ordinal ls) ls)
+    ∙ entry_same_by j ordinal (first_open (open_ordinal ordinal ls) ls)))
 
 pub renumbered_trees : RenumberedTreesAreTheSame
 renumbered_trees c other law j k answers =
@@ -89,7 +89,7 @@ renumbered_trees c other law j k answers =
     ∙ leaves_below c other j k answers (levels other.root) other.root (omega arith) is in
     record {
       same_leaves = same;
-      same_refuted = ap refuted_word same ∙ refuted_same j (leaves other (root_task other k));
+      same_refuted = ap refuted_ordinal same ∙ refuted_same j (leaves other (root_task other k));
       same_entry = ap entry_of same ∙ entry_same j (leaves other (root_task other k));
     }
 

@@ -3,7 +3,7 @@ use Rattle.std.specs.Prelude.{◌≡◌, ℕ, ◌<◌, map}
 use Rattle.cell_split.specs.declared.cell.Cell.{Cell}
 use Rattle.cell_split.specs.declared.verdict.Leaf.{Leaf}
 use Rattle.cell_split.specs.Cells.{IsCellOf, IsRoot}
-use Rattle.cell_split.specs.Entries.{entry_of, refuted_word}
+use Rattle.cell_split.specs.Entries.{entry_of, refuted_ordinal}
 use Rattle.cell_split.specs.Judges.{Content, IsLawful}
 use Rattle.cell_split.specs.Tree.{leaves, root_task, task_of}
 
@@ -19,7 +19,7 @@ renumbered j l = record { task = task_of j l.task.cell; verdict = l.verdict }
 -- Problem j of one judge has the leaves of the other's problem k, in the same order, and so its refuted rank and its entry.
 pub record HasTreeOf (c : Content) (j : ℕ) (other : Content) (k : ℕ) : Type 0 where
   pub same_leaves : leaves c (root_task c j) ≡ map (renumbered j) (leaves other (root_task other k))
-  pub same_refuted : refuted_word (leaves c (root_task c j)) ≡ refuted_word (leaves other (root_task other k))
+  pub same_refuted : refuted_ordinal (leaves c (root_task c j)) ≡ refuted_ordinal (leaves other (root_task other k))
   pub same_entry : entry_of (leaves c (root_task c j)) ≡ entry_of (leaves other (root_task other k))
 
 -- a judge's problem has the tree of the problem that it answers as

@@ -8,14 +8,14 @@ use Rattle.std.proofs.lemmas.Int.{ints}
 use Rattle.cell_split.specs.declared.verdict.Leaf.{Leaf}
 use Rattle.cell_split.specs.declared.verdict.Verdict.{Verdict}
 use Rattle.cell_split.specs.declared.verdict.Verdict.TheVariants.{Outside, Proved, Refuted, Split, Open}
-use Rattle.cell_split.specs.Entries.{last_word, refuted_word}
+use Rattle.cell_split.specs.Entries.{last_ordinal, refuted_ordinal}
 use Rattle.cell_split.specs.Verdicts.{is_refuted}
 use Rattle.cell_split.proofs.Every.{Every-all}
 use Rattle.covering.specs.Refuted.{first_refuted, rank_of, refuted_at}
 use Rattle.covering.proofs.Walking.{and_parts, found_has, none_at_word_0}
 use Rattle.plain_search.proofs.Greatest.{greatest_found}
 
--- no leaf has the word 0
+-- no leaf has the ordinal 0
 pub none_refuted : (ls : List Leaf) → first_refuted 0 ls ≡ None
 none_refuted ls = ap (option_and_then refuted_at) (none_at_word_0 is_refuted ls)
 
@@ -30,18 +30,18 @@ has_point l h = step l.verdict h
     step Split h = h
     step (Open p) h = h
 
-some_refuted : (word : ℕ) (ls : List Leaf) → refuted_word ls ≡ word → 0 < word → is_some (first_refuted word ls) ≡ true
-some_refuted word ls e h =
-    step (find (λ l. is_refuted l.verdict && eqb (last_word l) word) ls) refl (greatest_found (λ l. is_refuted l.verdict) word ls e h)
+some_refuted : (ordinal : ℕ) (ls : List Leaf) → refuted_ordinal ls ≡ ordinal → 0 < ordinal → is_some (first_refuted ordinal ls) ≡ true
+some_refuted ordinal ls e h =
+    step (find (λ l. is_refuted l.verdict && eqb (last_ordinal l) ordinal) ls) refl (greatest_found (λ l. is_refuted l.verdict) ordinal ls e h)
   where
-    step : (o : Option Leaf) → o ≡ find (λ l. is_refuted l.verdict && eqb (last_word l) word) ls → is_some o ≡ true → is_some (option_and_then refuted_at o) ≡ true
+    step : (o : Option Leaf) → o ≡ find (λ l. is_refuted l.verdict && eqb (last_ordinal l) ordinal) ls → is_some o ≡ true → is_some (option_and_then refuted_at o) ≡ true
     step None e h = h
     step (Some l) e h =
-        let has = found_has (λ l. Unit {0}) (λ l. is_refuted l.verdict && eqb (last_word l) word) ls l (Every-all (λ l. Unit {0}) ls (λ l. tt)) e in
-        has_point l (and_parts (is_refuted l.verdict) (eqb (last_word l) word) has.1).0
+        let has = found_has (λ l. Unit {0}) (λ l. is_refuted l.verdict && eqb (last_ordinal l) ordinal) ls l (Every-all (λ l. Unit {0}) ls (λ l. tt)) e in
+        has_point l (and_parts (is_refuted l.verdict) (eqb (last_ordinal l) ordinal) has.1).0
 
 -- there is one exactly where a rank is refuted
-pub refuted_shown : (word : ℕ) (ls : List Leaf) → word ≡ refuted_word ls → is_none (first_refuted word ls) ≡ int_eq (rank_of word) (neg_ℤ (pos 1))
+pub refuted_shown : (ordinal : ℕ) (ls : List Leaf) → ordinal ≡ refuted_ordinal ls → is_none (first_refuted ordinal ls) ≡ int_eq (rank_of ordinal) (neg_ℤ (pos 1))
 refuted_shown zero ls e = ap is_none (none_refuted ls)
 refuted_shown (suc n) ls e =
     let some = ap not (some_refuted (suc n) ls (sym e) (omega arith)) in

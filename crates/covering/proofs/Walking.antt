@@ -10,7 +10,7 @@ use Rattle.cell_split.specs.declared.cell.Cell.{Cell}
 use Rattle.cell_split.specs.declared.cell.Task.{Task}
 use Rattle.cell_split.specs.declared.verdict.Leaf.{Leaf}
 use Rattle.cell_split.specs.declared.verdict.Verdict.{Verdict}
-use Rattle.cell_split.specs.Entries.{last_word}
+use Rattle.cell_split.specs.Entries.{last_ordinal}
 use Rattle.cell_split.specs.Judges.{Content, IsTask}
 use Rattle.cell_split.specs.Split.{children_of}
 use Rattle.cell_split.specs.Tree.{leaves, task_of}
@@ -47,10 +47,10 @@ pub find_none : (test : Leaf → Bool) (ls : List Leaf) → Every (λ l. test l 
 find_none test [] h = refl
 find_none test (l ∷ ls) h = rw h.0 (find_none test ls h.1)
 
--- no leaf has the word 0
-pub none_at_word_0 : (kind : Verdict → Bool) (ls : List Leaf) → find (λ l. kind l.verdict && eqb (last_word l) 0) ls ≡ None
+-- no leaf has the ordinal 0
+pub none_at_word_0 : (kind : Verdict → Bool) (ls : List Leaf) → find (λ l. kind l.verdict && eqb (last_ordinal l) 0) ls ≡ None
 none_at_word_0 kind ls =
-    find_none (λ l. kind l.verdict && eqb (last_word l) 0) ls (Every-all (λ l. (kind l.verdict && eqb (last_word l) 0) ≡ false) ls (λ l. and_false (kind l.verdict) (eqb (l.task.cell.last + 1) 0) (grind (arith, nat_tests))))
+    find_none (λ l. kind l.verdict && eqb (last_ordinal l) 0) ls (Every-all (λ l. (kind l.verdict && eqb (last_ordinal l) 0) ≡ false) ls (λ l. and_false (kind l.verdict) (eqb (l.task.cell.last + 1) 0) (grind (arith, nat_tests))))
 
 -- what is found passes, and has what each leaf has
 pub found_has : (P : Leaf → Type 0) (test : Leaf → Bool) (ls : List Leaf) (l : Leaf) → Every P ls → Some l ≡ find test ls → P l × (test l ≡ true)

@@ -10,5 +10,5 @@ use Rattle.covering.specs.Letters.{cut, letter_of, letters_of}
 -- a cut cell has one letter, a split cell its letter and then those of its children, and any other cell its letter alone
 abbrev pub LettersAreThoseOfTheChildren : Type 0
 LettersAreThoseOfTheChildren =
-    (c : Content) (word : ℕ) (t : Task) → letters_of c word t ≡ (if nat_lt t.cell.last word then cut ∷ []
-    else option_to_list (letter_of (c.verdict t)) ++ (if is_split (c.verdict t) then flat_map (letters_of c word) (child_tasks t) else []))
+    (c : Content) (ordinal : ℕ) (t : Task) → letters_of c ordinal t ≡ (if nat_lt t.cell.last ordinal then cut ∷ []
+    else option_to_list (letter_of (c.verdict t)) ++ (if is_split (c.verdict t) then flat_map (letters_of c ordinal) (child_tasks t) else []))

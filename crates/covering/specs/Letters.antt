@@ -1,5 +1,5 @@
 -- The letters of a tree, in tree order, cut at each cell whose last rank is at most the refuted rank. A rank is written as a
--- word, one more than the rank, so that 0 is none.
+-- ordinal, one more than the rank, so that 0 is none.
 use Rattle.std.specs.Prelude.{ℕ, zero, suc, ◌==◌, ◌||◌, nat_lt, if◌then◌else◌, Bool, List, [], ◌∷◌, ◌++◌, flat_map, Option, Some, None}
 use Rattle.std.specs.Option.{option_to_list}
 use Rattle.cell_split.specs.declared.cell.Task.{Task}
@@ -27,11 +27,11 @@ is_letter b = (b == 107) || (b == 120) || (b == 112) || (b == 111) || (b == 115)
 
 -- the letters below a task, down to a number of levels
 unfoldable pub letters_to : ℕ → Content → ℕ → Task → List ℕ
-letters_to zero c word t = []
-letters_to (suc n) c word t =
-    if nat_lt t.cell.last word then cut ∷ []
-    else option_to_list (letter_of (c.verdict t)) ++ (if is_split (c.verdict t) then flat_map (letters_to n c word) (child_tasks t) else [])
+letters_to zero c ordinal t = []
+letters_to (suc n) c ordinal t =
+    if nat_lt t.cell.last ordinal then cut ∷ []
+    else option_to_list (letter_of (c.verdict t)) ++ (if is_split (c.verdict t) then flat_map (letters_to n c ordinal) (child_tasks t) else [])
 
--- the letters below a task, cut at the rank of this word
+-- the letters below a task, cut at the rank of this ordinal
 unfoldable pub letters_of : Content → ℕ → Task → List ℕ
-letters_of c word t = letters_to (levels t.cell) c word t
+letters_of c ordinal t = letters_to (levels t.cell) c ordinal t

@@ -6,7 +6,7 @@ use Rattle.cell_split.specs.declared.cell.Cell.{Cell}
 use Rattle.cell_split.specs.declared.verdict.Leaf.{Leaf}
 use Rattle.cell_split.specs.declared.verdict.Verdict.{Verdict}
 use Rattle.cell_split.specs.declared.verdict.Verdict.TheVariants.{Refuted}
-use Rattle.cell_split.specs.Entries.{last_word}
+use Rattle.cell_split.specs.Entries.{last_ordinal}
 use Rattle.cell_split.specs.Verdicts.{is_refuted}
 
 -- the place where the condition fails
@@ -18,11 +18,11 @@ refuting_point _ = None
 abbrev pub refuted_at : Leaf → Option (Cell × Point)
 refuted_at l = option_map (λ p. (l.task.cell, p)) (refuting_point l.verdict)
 
--- the first refuted leaf whose last rank is that of this word
+-- the first refuted leaf whose last rank is that of this ordinal
 abbrev pub first_refuted : ℕ → List Leaf → Option (Cell × Point)
-first_refuted word ls =
-    option_and_then refuted_at (find (λ l. is_refuted l.verdict && (last_word l == word)) ls)
+first_refuted ordinal ls =
+    option_and_then refuted_at (find (λ l. is_refuted l.verdict && (last_ordinal l == ordinal)) ls)
 
--- the rank of a word, -1 for none
+-- the rank of an ordinal, -1 for none
 abbrev pub rank_of : ℕ → ℤ
-rank_of word = pos word -ℤ pos 1
+rank_of ordinal = pos ordinal -ℤ pos 1

@@ -1,11 +1,11 @@
 // The entry of a tree, from a harvest or by a search of its own.
 ghost use Rattle.std.specs.Prelude.{◌≡◌, ◌+◌, ◌<◌, ◌≤◌, max, IfSome};
-ghost use Rattle.cell_split.specs.Entries.{decided, entry_by, entry_of, greatest_word, last_word};
-ghost use Rattle.plain_search.specs.Harvests.{IsHarvest, word_of};
-ghost use Rattle.plain_search.specs.TopRanks.{AreTopWords, is_open_of};
+ghost use Rattle.cell_split.specs.Entries.{decided, entry_by, entry_of, greatest_ordinal, last_ordinal};
+ghost use Rattle.plain_search.specs.Harvests.{IsHarvest, ordinal_of};
+ghost use Rattle.plain_search.specs.TopRanks.{AreTopOrdinals, is_open_of};
 ghost use Rattle.covering.specs.Entries.{IsEntryIn};
 ghost use Rattle.covering.specs.Seeks.{open_of};
-ghost use Rattle.covering.specs.Settles.{leaves_of, open_word_of};
+ghost use Rattle.covering.specs.Settles.{leaves_of, open_ordinal_of};
 
 use crate::leaf_walk::{Sought, first_leaf};
 use cell_split::{Entry, Judge, Leaf, Task, Verdict};
@@ -39,7 +39,7 @@ pub fn entry_at<J: Judge>(judge: &J, k: u32) -> Entry
 /// judged anew as in `entry_of`. It takes no memory.
 pub fn entry_of_ranks<J: Judge>(judge: &J, k: u32, ranks: TopRanks) -> Entry
     requires known { k < (J.content judge.now).problems }
-    requires ranks { AreTopWords (leaves_of (J.content judge.now) k) (word_of ranks.refuted) (word_of ranks.left_open) }
+    requires ranks { AreTopOrdinals (leaves_of (J.content judge.now) k) (ordinal_of ranks.refuted) (ordinal_of ranks.left_open) }
     ensures value { result ≡ entry_of (leaves_of (J.content judge.now) k) }
     ensures in_root { IsEntryIn (J.content judge.now).root result }
 {
@@ -49,7 +49,7 @@ pub fn entry_of_ranks<J: Judge>(judge: &J, k: u32, ranks: TopRanks) -> Entry
 // the first open leaf at the greatest open rank above the refuted rank
 fn first_open<J: Judge>(judge: &J, k: u32, left_open: Option<u32>) -> Option<Leaf>
     requires known { k < (J.content judge.now).problems }
-    requires left_open { word_of left_open ≡ open_word_of (J.content judge.now) k }
+    requires left_open { ordinal_of left_open ≡ open_ordinal_of (J.content judge.now) k }
     ensures { result ≡ open_of (leaves_of (J.content judge.now) k) }
 {
     let root = Task {
@@ -61,7 +61,7 @@ fn first_open<J: Judge>(judge: &J, k: u32, left_open: Option<u32>) -> Option<Lea
 
 // the greatest open rank of a problem above its refuted rank
 fn open_rank(harvest: &Harvest, k: u32, refuted: Option<u32>) -> Option<u32>
-    ensures { word_of result ≡ greatest_word (is_open_of k (word_of refuted)) harvest.now.leaves }
+    ensures { ordinal_of result ≡ greatest_ordinal (is_open_of k (ordinal_of refuted)) harvest.now.leaves }
 {
     let mut open = None;
     for i in 0..harvest.leaf_count() {
@@ -75,7 +75,7 @@ fn open_rank(harvest: &Harvest, k: u32, refuted: Option<u32>) -> Option<u32>
 
 // whether a leaf is an open one of the problem, above its refuted rank
 fn is_open_of(leaf: &Leaf, k: u32, refuted: Option<u32>) -> bool
-    ensures { result ≡ is_open_of k (word_of refuted) leaf.now }
+    ensures { result ≡ is_open_of k (ordinal_of refuted) leaf.now }
 {
     let is_open = matches!(leaf.verdict, Verdict::Open(_));
     leaf.task.problem == k && is_open && !is_cut(&leaf.task.cell, refuted)
@@ -83,7 +83,7 @@ fn is_open_of(leaf: &Leaf, k: u32, refuted: Option<u32>) -> bool
 
 // the later of two ranks
 fn later(known: Option<u32>, rank: u32) -> u32
-    ensures { result + 1 ≡ max (word_of known) (rank + 1) }
+    ensures { result + 1 ≡ max (ordinal_of known) (rank + 1) }
 {
     match known {
         Some(known) => known.max(rank),
@@ -94,9 +94,9 @@ fn later(known: Option<u32>, rank: u32) -> u32
 /// The entry of a refuted rank, `None` for none, where this is the first open leaf of the greatest open rank
 /// above it.
 pub fn entry_by(refuted: Option<u32>, first: Option<Leaf>) -> Entry
-    requires refuted { word_of refuted ≤ 721 }
-    requires first { IfSome first (λ l. last_word l ≤ 721) }
-    ensures { result ≡ entry_by (word_of refuted) first }
+    requires refuted { ordinal_of refuted ≤ 721 }
+    requires first { IfSome first (λ l. last_ordinal l ≤ 721) }
+    ensures { result ≡ entry_by (ordinal_of refuted) first }
 {
     match first {
         Some(leaf) => Entry::Open {
@@ -110,8 +110,8 @@ pub fn entry_by(refuted: Option<u32>, first: Option<Leaf>) -> Entry
 
 // the entry where nothing is open above the refuted rank
 fn decided(refuted: Option<u32>) -> Entry
-    requires { word_of refuted ≤ 721 }
-    ensures { result ≡ decided (word_of refuted) }
+    requires { ordinal_of refuted ≤ 721 }
+    ensures { result ≡ decided (ordinal_of refuted) }
 {
     match refuted {
         None => Entry::Whole,
@@ -122,8 +122,8 @@ fn decided(refuted: Option<u32>) -> Entry
 
 // the first rank after the refuted ones
 fn rank_after(refuted: Option<u32>) -> u32
-    requires { word_of refuted ≤ 721 }
-    ensures { result ≡ word_of refuted }
+    requires { ordinal_of refuted ≤ 721 }
+    ensures { result ≡ ordinal_of refuted }
 {
     match refuted {
         Some(rank) => rank + 1,

@@ -3,7 +3,7 @@ ghost use Rattle.std.specs.Prelude.{◌≡◌, ◌++◌, flat_map, OnOk};
 ghost use Rattle.std.specs.Option.{option_to_list};
 ghost use Rattle.cell_split.specs.Judges.{IsTask};
 ghost use Rattle.cell_split.specs.Tree.{child_tasks};
-ghost use Rattle.plain_search.specs.Harvests.{word_of};
+ghost use Rattle.plain_search.specs.Harvests.{ordinal_of};
 ghost use Rattle.covering.specs.Letters.{letter_of, letters_of};
 
 use cell_split::{Judge, Task, Verdict, children};
@@ -20,7 +20,7 @@ pub(crate) fn write_letters<J: Judge>(
     letters: &mut Vec<u8>,
 ) -> Result<(), NoMemory>
     requires { IsTask (J.content judge.now) task }
-    ensures { OnOk result (letters.new.items ≡ letters.old.items ++ letters_of (J.content judge.now) (word_of refuted) task) }
+    ensures { OnOk result (letters.new.items ≡ letters.old.items ++ letters_of (J.content judge.now) (ordinal_of refuted) task) }
 {
     if is_cut(&task.cell, refuted) {
         letters.push(b'k')?;
@@ -43,7 +43,7 @@ fn write_letters_below<J: Judge>(
     letters: &mut Vec<u8>,
 ) -> Result<(), NoMemory>
     requires { IsTask (J.content judge.now) task }
-    ensures { OnOk result (letters.new.items ≡ letters.old.items ++ flat_map (letters_of (J.content judge.now) (word_of refuted)) (child_tasks task)) }
+    ensures { OnOk result (letters.new.items ≡ letters.old.items ++ flat_map (letters_of (J.content judge.now) (ordinal_of refuted)) (child_tasks task)) }
 {
     let below = children(&task.cell);
     for cell in &below.cells[..below.count as usize] {

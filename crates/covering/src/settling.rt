@@ -2,7 +2,7 @@
 ghost use Rattle.std.specs.Prelude.{◌≡◌, ◌<◌, ◌≤◌, IfOk};
 ghost use Rattle.cell_split.specs.Judges.{IsTask};
 ghost use Rattle.cell_split.specs.Tree.{leaves};
-ghost use Rattle.plain_search.specs.Harvests.{IsHarvest, word_of};
+ghost use Rattle.plain_search.specs.Harvests.{IsHarvest, ordinal_of};
 ghost use Rattle.covering.specs.Entries.{IsEntryIn};
 ghost use Rattle.covering.specs.Refuted.{first_refuted, rank_of, refuted_at};
 ghost use Rattle.covering.specs.Settles.{IsSettled};
@@ -49,8 +49,8 @@ pub fn settle<J: Judge>(
 
 // the rank, -1 for none
 fn number_of(rank: Option<u32>) -> i32
-    requires { word_of rank ≤ 721 }
-    ensures { result ≡ rank_of (word_of rank) }
+    requires { ordinal_of rank ≤ 721 }
+    ensures { result ≡ rank_of (ordinal_of rank) }
 {
     match rank {
         Some(rank) => rank as i32,
@@ -61,7 +61,7 @@ fn number_of(rank: Option<u32>) -> i32
 // the first refuted leaf with the refuted rank
 fn first_refuted<J: Judge>(judge: &J, root: Task, rank: Option<u32>) -> Option<(Cell, Point)>
     requires { IsTask (J.content judge.now) root }
-    ensures { result ≡ first_refuted (word_of rank) (leaves (J.content judge.now) root) }
+    ensures { result ≡ first_refuted (ordinal_of rank) (leaves (J.content judge.now) root) }
 {
     let leaf = first_leaf(judge, root, Sought::Refuted, rank?)?;
     refuted_at(leaf)

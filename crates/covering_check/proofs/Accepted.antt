@@ -22,7 +22,7 @@ use Rattle.covering.specs.declared.settled.Settled.{Settled}
 use Rattle.covering.specs.Letters.{is_letter}
 use Rattle.covering.specs.Lines.{IsReadAs, cell_data, line_data, members_data, point_data, tree_data}
 use Rattle.covering.specs.Refuted.{rank_of}
-use Rattle.covering.specs.Settles.{IsSettled, refuted_word_of}
+use Rattle.covering.specs.Settles.{IsSettled, refuted_ordinal_of}
 use Rattle.plain_search.proofs.OpenLeaves.{greatest_in_frame}
 use Rattle.covering.proofs.Spelling.{letters_are}
 use Rattle.covering_check.specs.declared.claim.Claim.{Claim}
@@ -123,9 +123,9 @@ not_none n = by (int_eq (pos n) (neg_ℤ (pos 1))) refl
     by false e = e
     by true e = let same = (Decides-int_eq (pos n) (neg_ℤ (pos 1))).0 e in absurd (omega (arith, ints, same))
 
-claim_again : (root : Cell) (word : ℕ) (r : ℤ) (cell : Cell) (p : Point) → 0 < word → word ≤ 721 → r ≡ pos word -ℤ pos 1 → IsCellOf root cell → cell.x ≤ℤ pos (2 ^ 62) → cell.y ≤ℤ pos (2 ^ 62) → claim_of r (cell_data (Some (cell, p))) (point_data (Some (cell, p))) ≡ Some (claim_for word (Some (cell, p)))
-claim_again root word r cell p some frame is of_root x y =
-    let n = word - 1 in
+claim_again : (root : Cell) (ordinal : ℕ) (r : ℤ) (cell : Cell) (p : Point) → 0 < ordinal → ordinal ≤ 721 → r ≡ pos ordinal -ℤ pos 1 → IsCellOf root cell → cell.x ≤ℤ pos (2 ^ 62) → cell.y ≤ℤ pos (2 ^ 62) → claim_of r (cell_data (Some (cell, p))) (point_data (Some (cell, p))) ≡ Some (claim_for ordinal (Some (cell, p)))
+claim_again root ordinal r cell p some frame is of_root x y =
+    let n = ordinal - 1 in
     let rank : r ≡ pos n = omega (arith, ints) in
     let c = cell_data (Some (cell, p)) in
     let d = point_data (Some (cell, p)) in
@@ -137,31 +137,31 @@ claim_again root word r cell p some frame is of_root x y =
     ∙ (ap (λ (o : Option Cell). option_and_then (λ q. option_map (UpTo n q) (point_in d)) o) (cell_again root cell p of_root x y)
     ∙ ap (λ (o : Option Numbers). option_map (UpTo n cell) o) (point_again cell p))))
 
-claim_cases : (c : Content) → IsLawful c → (k word : ℕ) (found : Option (Cell × Point)) (r : ℤ) → r ≡ rank_of word → word ≤ 721 → IsClaim c k word found → claim_of r (cell_data found) (point_data found) ≡ Some (claim_for word found)
-claim_cases c law k word None r rank frame h =
+claim_cases : (c : Content) → IsLawful c → (k ordinal : ℕ) (found : Option (Cell × Point)) (r : ℤ) → r ≡ rank_of ordinal → ordinal ≤ 721 → IsClaim c k ordinal found → claim_of r (cell_data found) (point_data found) ≡ Some (claim_for ordinal found)
+claim_cases c law k ordinal None r rank frame h =
     ap (λ (z : ℤ). claim_of z (cell_data None) (point_data None)) (rank ∙ ap rank_of (sym h.0))
-claim_cases c law k word (Some found) r rank frame h =
+claim_cases c law k ordinal (Some found) r rank frame h =
     let of_root = cell_is c.root found.0 (and_left (is_cell_of c.root found.0) _ h.1) in
     let limits = cell_limits found.0 (record { root = c.root; is_root = law.root; of_root = of_root }) in
-    let word_is = h.0 in
-    claim_again c.root word r found.0 found.1 (omega arith) frame rank of_root (omega (arith, ints, limits.east)) (omega (arith, ints, limits.north))
+    let ordinal_is = h.0 in
+    claim_again c.root ordinal r found.0 found.1 (omega arith) frame rank of_root (omega (arith, ints, limits.east)) (omega (arith, ints, limits.north))
 
-claim_read : (c : Content) → IsLawful c → (k : ℕ) → k < c.problems → (s : Settled) → IsSettled c k s → (column day name letters : List ℕ) → claim_in (line_data column day s name letters) ≡ Some (claim_for (refuted_word_of c k) s.refuted)
+claim_read : (c : Content) → IsLawful c → (k : ℕ) → k < c.problems → (s : Settled) → IsSettled c k s → (column day name letters : List ℕ) → claim_in (line_data column day s name letters) ≡ Some (claim_for (refuted_ordinal_of c k) s.refuted)
 unfolding claim_in
 claim_read c law k known s is column day name letters =
     let p = point_data s.refuted in
     let q = cell_data s.refuted in
     let frame = greatest_in_frame (λ l. is_refuted l.verdict) c k law known in
-    let rank : s.r ≡ rank_of (refuted_word_of c k) = is.rank in
+    let rank : s.r ≡ rank_of (refuted_ordinal_of c k) = is.rank in
     let number = number_again s.r (omega (arith, ints, rank, frame)) in
-    let claim = subst (IsClaim c k (refuted_word_of c k)) (sym is.refuted) (claim_is c law k known) in
+    let claim = subst (IsClaim c k (refuted_ordinal_of c k)) (sym is.refuted) (claim_is c law k known) in
     let d = line_data column day s name letters in
     let rest = λ (r : ℤ). option_and_then (λ x. option_and_then (claim_of r x) (get (codes "point") d)) (get (codes "refuted") d) in
     ap (λ (o : Option Data). option_and_then rest (option_and_then number_of o)) (rank_at column day p q s.r name letters)
     ∙ (ap (λ (o : Option ℤ). option_and_then rest o) number
     ∙ (ap (λ (o : Option Data). option_and_then (λ x. option_and_then (claim_of s.r x) (get (codes "point") d)) o) (refuted_at column day p q s.r name letters)
     ∙ (ap (λ (o : Option Data). option_and_then (claim_of s.r q) o) (point_at column day p q s.r name letters)
-    ∙ claim_cases c law k (refuted_word_of c k) s.refuted s.r rank frame claim)))
+    ∙ claim_cases c law k (refuted_ordinal_of c k) s.refuted s.r rank frame claim)))
 
 marks_read : (column day : List ℕ) (s : Settled) → marks_in (tree_data column day s) ≡ Some (tree_marks s.letters)
 unfolding marks_in
@@ -181,9 +181,9 @@ tree_accepted c law k known s is column day line reads =
     let d = tree_data column day s in
     let p = point_data s.refuted in
     let q = cell_data s.refuted in
-    let claim = claim_for (refuted_word_of c k) s.refuted in
+    let claim = claim_for (refuted_ordinal_of c k) s.refuted in
     let letters = tree_marks s.letters in
-    let again = tree_again s.letters 0 (subst (λ bs. list_all is_letter bs ≡ true) (sym is.letters) (letters_are c (refuted_word_of c k) (root_task c k))) in
+    let again = tree_again s.letters 0 (subst (λ bs. list_all is_letter bs ≡ true) (sym is.letters) (letters_are c (refuted_ordinal_of c k) (root_task c k))) in
     ap (λ (r : Result Data CoverFault). r >>= shown_in c k column day) (value_is line d reads.utf8 reads.value)
     ∙ (ap (λ (o : Option (List ℕ)). or_no_line o >>= by_column c k column day d) (column_at column day p q s.r (codes "tree") s.letters)
     ∙ (ap (λ (o : Option (List ℕ)). or_no_line o >>= by_day c k column day d column) (day_at column day p q s.r (codes "tree") s.letters)

@@ -6,7 +6,7 @@ use Rattle.cell_split.specs.declared.verdict.Entry.{Entry}
 use Rattle.cell_split.specs.declared.verdict.Leaf.{Leaf}
 use Rattle.cell_split.specs.declared.verdict.Verdict.{Verdict}
 use Rattle.cell_split.specs.declared.verdict.Verdict.TheVariants.{Refuted}
-use Rattle.cell_split.specs.Entries.{entry_by, first_open, open_word}
+use Rattle.cell_split.specs.Entries.{entry_by, first_open, open_ordinal}
 use Rattle.cell_split.specs.Judges.{Content}
 use Rattle.cell_split.specs.Tree.{root_task, task_of}
 use Rattle.serde_json.specs.Data.{Data}
@@ -20,7 +20,7 @@ use Rattle.covering_check.specs.declared.mark.Mark.{Mark}
 use Rattle.covering_check.specs.Cells.{is_cell_of}
 use Rattle.covering_check.specs.Gives.{◌>>=◌, or_no_line}
 use Rattle.covering_check.specs.Marks.{Marks, marks_in}
-use Rattle.covering_check.specs.Members.{claim_in, text_at, word_of_claim}
+use Rattle.covering_check.specs.Members.{claim_in, text_at, ordinal_of_claim}
 use Rattle.covering_check.specs.Visits.{taken, visited}
 
 -- refuted at the place with these very numbers
@@ -44,20 +44,20 @@ is_spent m = is_spent_by m.marks m.end
 
 -- the entry of the refuted rank and the open cells above it
 abbrev pub entry_over : ℕ → List Leaf → Entry
-entry_over word cells = entry_by word (first_open (open_word word cells) cells)
+entry_over ordinal cells = entry_by ordinal (first_open (open_ordinal ordinal cells) cells)
 
 -- what is answered when the cells have taken their letters
 abbrev pub answer_by : Content → ℕ → Claim → Marks → Result Entry CoverFault
 answer_by c k claim rest =
     if is_spent rest then
-    (if is_failing c k claim then Ok (entry_over (word_of_claim claim) (visited c (word_of_claim claim) (root_task c k)))
+    (if is_failing c k claim then Ok (entry_over (ordinal_of_claim claim) (visited c (ordinal_of_claim claim) (root_task c k)))
     else Err NotFailing)
     else Err Long
 
 -- the entry that a claim and letters show
 abbrev pub shown_by : Content → ℕ → Claim → Marks → Result Entry CoverFault
 shown_by c k claim letters =
-    taken (word_of_claim claim) (visited c (word_of_claim claim) (root_task c k)) letters >>= answer_by c k claim
+    taken (ordinal_of_claim claim) (visited c (ordinal_of_claim claim) (root_task c k)) letters >>= answer_by c k claim
 
 -- what a line is read as
 unfoldable pub value_in : List ℕ → Result Data CoverFault

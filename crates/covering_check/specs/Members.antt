@@ -1,4 +1,4 @@
--- What the members of a line say. A rank is written as a word, one more than the rank, so that 0 is none.
+-- What the members of a line say. A rank is written as an ordinal, one more than the rank, so that 0 is none.
 use Rattle.std.specs.Prelude.{ℕ, ◌+◌, ◌^◌, Bool, ◌&&◌, if◌then◌else◌, List, codes, ℤ, pos, neg_ℤ, unsigned_abs, int_le, Option, Some, None, is_some, option_map, option_and_then}
 use Rattle.std.specs.Option.{is_none}
 use Rattle.std.specs.Ordering.{int_eq}
@@ -82,7 +82,7 @@ claim_in d =
     option_and_then (λ r. option_and_then (λ refuted. option_and_then (claim_of r refuted) (get (codes "point") d))
     (get (codes "refuted") d)) (option_and_then number_of (get (codes "r") d))
 
--- the word of the rank
-abbrev pub word_of_claim : Claim → ℕ
-word_of_claim Nowhere = 0
-word_of_claim (UpTo rank cell point) = rank + 1
+-- the ordinal of the rank
+abbrev pub ordinal_of_claim : Claim → ℕ
+ordinal_of_claim Nowhere = 0
+ordinal_of_claim (UpTo rank cell point) = rank + 1

@@ -3,7 +3,7 @@ use Rattle.std.specs.Prelude.{◌≡◌, ℕ, ◌<◌, ◌≤◌, false, List, A
 use Rattle.plane_edges.specs.Plane.{Place}
 use Rattle.cell_split.specs.declared.verdict.Entry.{Entry}
 use Rattle.cell_split.specs.declared.verdict.Leaf.{Leaf}
-use Rattle.cell_split.specs.Entries.{entry_of, refuted_word}
+use Rattle.cell_split.specs.Entries.{entry_of, refuted_ordinal}
 use Rattle.cell_split.specs.Judges.{Content, IsLawful, IsTask}
 use Rattle.cell_split.specs.Laws.{Covers}
 use Rattle.cell_split.specs.Verdicts.{is_split}
@@ -20,7 +20,7 @@ pub record IsJudged (c : Content) (problem : ℕ) (l : Leaf) : Type 0 where
 pub record IsShown (c : Content) (problem : ℕ) (e : Entry) : Type 0 where
   pub cells : List Leaf
   pub judged : All (IsJudged c problem) cells
-  pub cover : (place : Place) (rank : ℕ) → refuted_word cells ≤ rank → Covers place rank c.root → Any (λ l. Covers place rank l.task.cell) cells
+  pub cover : (place : Place) (rank : ℕ) → refuted_ordinal cells ≤ rank → Covers place rank c.root → Any (λ l. Covers place rank l.task.cell) cells
   pub entry : e ≡ entry_of cells
 
 -- every entry that a line shows is of that kind

@@ -2,7 +2,7 @@
 use Rattle.std.specs.Prelude.{◌≡◌, ◌≤◌, ℕ, zero, suc, ◌==◌, ◌&&◌, nat_lt, if◌then◌else◌, Bool, true, false, List, [], ◌∷◌, flat_map, Option, Some, None, unwrap_or, Result, Ok, Err}
 use Rattle.cell_split.specs.declared.cell.Task.{Task}
 use Rattle.cell_split.specs.declared.verdict.Leaf.{Leaf}
-use Rattle.cell_split.specs.Entries.{is_open_above, last_word}
+use Rattle.cell_split.specs.Entries.{is_open_above, last_ordinal}
 use Rattle.cell_split.specs.Judges.{Content}
 use Rattle.cell_split.specs.Tree.{child_tasks, leaf_of, levels}
 use Rattle.cell_split.specs.Verdicts.{is_split}
@@ -14,19 +14,19 @@ use Rattle.covering_check.specs.Gives.{◌>>=◌}
 use Rattle.covering_check.specs.Marks.{Marks}
 
 -- The cells below a task that a covering names, with their verdicts, down to a number of levels: a cell whose last rank is below
--- the word is cut, and nothing below it is named.
+-- the ordinal is cut, and nothing below it is named.
 unfoldable pub visited_to : ℕ → Content → ℕ → Task → List Leaf
-visited_to zero c word t = []
-visited_to (suc n) c word t =
-    leaf_of c t ∷ (if nat_lt t.cell.last word then []
-    else (if is_split (c.verdict t) then flat_map (visited_to n c word) (child_tasks t) else []))
+visited_to zero c ordinal t = []
+visited_to (suc n) c ordinal t =
+    leaf_of c t ∷ (if nat_lt t.cell.last ordinal then []
+    else (if is_split (c.verdict t) then flat_map (visited_to n c ordinal) (child_tasks t) else []))
 
 unfoldable pub visited : Content → ℕ → Task → List Leaf
-visited c word t = visited_to (levels t.cell) c word t
+visited c ordinal t = visited_to (levels t.cell) c ordinal t
 
 -- the letter that shows a cell: none shows a refuted one above the refuted rank
 abbrev pub letter_for : ℕ → Leaf → Option ℕ
-letter_for word l = if nat_lt l.task.cell.last word then Some cut else letter_of l.verdict
+letter_for ordinal l = if nat_lt l.task.cell.last ordinal then Some cut else letter_of l.verdict
 
 -- the letter is the one that shows the cell
 abbrev pub is_letter_for : Option ℕ → ℕ → Bool
@@ -44,31 +44,31 @@ taken_by right (m ∷ marks) end = if is_letter_for right m.letter then Ok (reco
 
 -- the letters behind those that show the cells, or the first fault
 abbrev pub taken : ℕ → List Leaf → Marks → Result Marks CoverFault
-taken word [] m = Ok m
-taken word (l ∷ ls) m = taken_by (letter_for word l) m.marks m.end >>= taken word ls
+taken ordinal [] m = Ok m
+taken ordinal (l ∷ ls) m = taken_by (letter_for ordinal l) m.marks m.end >>= taken ordinal ls
 
 -- ---- the open cells
 
 -- the cell is at a later rank than what was found
 abbrev pub is_later : Option Leaf → Leaf → Bool
 is_later None l = true
-is_later (Some m) l = nat_lt (last_word m) (last_word l)
+is_later (Some m) l = nat_lt (last_ordinal m) (last_ordinal l)
 
--- what is found with one cell more: the first open one of the latest rank above the word
+-- what is found with one cell more: the first open one of the latest rank above the ordinal
 abbrev pub later_open : ℕ → Option Leaf → Leaf → Option Leaf
-later_open word o l = if is_open_above word l && is_later o l then Some l else o
+later_open ordinal o l = if is_open_above ordinal l && is_later o l then Some l else o
 
 abbrev pub latest_open : ℕ → Option Leaf → List Leaf → Option Leaf
-latest_open word o [] = o
-latest_open word o (l ∷ ls) = latest_open word (later_open word o l) ls
+latest_open ordinal o [] = o
+latest_open ordinal o (l ∷ ls) = latest_open ordinal (later_open ordinal o l) ls
 
 -- what a walk answers: what it found, and the letters that are left, or the first fault
 abbrev pub Walks : ℕ → List Leaf → Option Leaf → Marks → Marks → Result (Option Leaf) CoverFault → Type 0
-Walks word cells open' before after (Ok found) =
-    (taken word cells before ≡ Ok after) × (found ≡ latest_open word open' cells)
-Walks word cells open' before after (Err e) = taken word cells before ≡ Err e
+Walks ordinal cells open' before after (Ok found) =
+    (taken ordinal cells before ≡ Ok after) × (found ≡ latest_open ordinal open' cells)
+Walks ordinal cells open' before after (Err e) = taken ordinal cells before ≡ Err e
 
 -- it is a frame's rank
 abbrev pub IsInFrame : Option Leaf → Type 0
 IsInFrame None = Unit {0}
-IsInFrame (Some l) = last_word l ≤ 721
+IsInFrame (Some l) = last_ordinal l ≤ 721

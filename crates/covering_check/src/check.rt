@@ -5,7 +5,7 @@ ghost use Rattle.cell_split.specs.Cells.{IsRoot};
 ghost use Rattle.covering_check.specs.Cells.{is_cell_of};
 ghost use Rattle.covering_check.specs.Checks.{is_failing, is_refuted_at, shown_by, shown_in, shown_of, value_in};
 ghost use Rattle.covering_check.specs.Gives.{Gives};
-ghost use Rattle.covering_check.specs.Members.{word_of_claim};
+ghost use Rattle.covering_check.specs.Members.{ordinal_of_claim};
 ghost use Rattle.covering_check.specs.Left.{left};
 
 use crate::claim::{Claim, Numbers};
@@ -88,7 +88,7 @@ fn check_claim<J: Judge>(
     letters: &mut Letters<'_>,
 ) -> Result<Entry, CoverFault>
     requires known { k < (J.content judge.now).problems }
-    requires in_frame { word_of_claim claim ≤ 721 }
+    requires in_frame { ordinal_of_claim claim ≤ 721 }
     ensures { result ≡ shown_by (J.content judge.now) k claim (left letters.old) }
 {
     let root = Task {

@@ -1,7 +1,7 @@
 // What a line says to be refuted.
 ghost use Rattle.std.specs.Prelude.{◌≡◌};
-ghost use Rattle.plain_search.specs.Harvests.{word_of};
-ghost use Rattle.covering_check.specs.Members.{word_of_claim};
+ghost use Rattle.plain_search.specs.Harvests.{ordinal_of};
+ghost use Rattle.covering_check.specs.Members.{ordinal_of_claim};
 
 use cell_split::Cell;
 
@@ -26,7 +26,7 @@ pub(crate) enum Claim {
 
 impl Claim {
     pub(crate) fn rank(self) -> Option<u32>
-        ensures { word_of result ≡ word_of_claim self }
+        ensures { ordinal_of result ≡ ordinal_of_claim self }
     {
         match self {
             Claim::Nowhere => None,

@@ -1,7 +1,7 @@
 // The members of a line.
 ghost use Rattle.std.specs.Prelude.{◌≡◌, ◌≤◌, option_map, pos, ◌≤ℤ◌, IfSome};
 ghost use Rattle.serde_json.specs.View.{view};
-ghost use Rattle.covering_check.specs.Members.{cell_in, claim_in, claim_of, is_empty, is_point, is_within, natural_at, natural_to, number_at, point_in, text_at, whole_at, word_of_claim};
+ghost use Rattle.covering_check.specs.Members.{cell_in, claim_in, claim_of, is_empty, is_point, is_within, natural_at, natural_to, number_at, point_in, text_at, whole_at, ordinal_of_claim};
 
 use crate::claim::{Claim, Numbers};
 use crate::numerals::whole_in;
@@ -19,7 +19,7 @@ pub(crate) fn text_at<'v>(value: &'v Value, name: &str) -> Option<&'v str>
 #[tactic(auto, unfolding(crate::specs::Members::claim_in))]
 pub(crate) fn claim_in(value: &Value) -> Option<Claim>
     ensures value { result ≡ claim_in (view value.now) }
-    ensures in_frame { IfSome result (λ claim. word_of_claim claim ≤ 721) }
+    ensures in_frame { IfSome result (λ claim. ordinal_of_claim claim ≤ 721) }
 {
     let r = value.get("r")?.as_i64()?;
     let refuted = value.get("refuted")?;
@@ -29,7 +29,7 @@ pub(crate) fn claim_in(value: &Value) -> Option<Claim>
 
 fn claim_of(r: i64, refuted: &Value, point: &Value) -> Option<Claim>
     ensures value { result ≡ claim_of r (view refuted.now) (view point.now) }
-    ensures in_frame { IfSome result (λ claim. word_of_claim claim ≤ 721) }
+    ensures in_frame { IfSome result (λ claim. ordinal_of_claim claim ≤ 721) }
 {
     if r == -1 {
         return if is_empty(refuted) && is_empty(point) {

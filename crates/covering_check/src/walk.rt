@@ -4,7 +4,7 @@ ghost use Rattle.cell_split.specs.Judges.{IsTask};
 ghost use Rattle.cell_split.specs.Split.{children_of, split};
 ghost use Rattle.cell_split.specs.Tree.{child_tasks};
 ghost use Rattle.cell_split.specs.Verdicts.{is_split};
-ghost use Rattle.plain_search.specs.Harvests.{word_of};
+ghost use Rattle.plain_search.specs.Harvests.{ordinal_of};
 ghost use Rattle.covering.specs.Letters.{letter_of};
 ghost use Rattle.covering_check.specs.Left.{left};
 ghost use Rattle.covering_check.specs.Visits.{IsInFrame, Walks, is_letter_for, later_open, visited};
@@ -27,7 +27,7 @@ pub(crate) fn walk<J: Judge>(
 ) -> Result<Option<Leaf>, CoverFault>
     requires task { IsTask (J.content judge.now) task }
     requires known { IsInFrame known }
-    ensures walks { Walks (word_of refuted) (visited (J.content judge.now) (word_of refuted) task) known (left letters.old) (left letters.new) result }
+    ensures walks { Walks (ordinal_of refuted) (visited (J.content judge.now) (ordinal_of refuted) task) known (left letters.old) (left letters.new) result }
     ensures in_frame { IfOk result IsInFrame }
 {
     if !is_cut(&task.cell, refuted) {
@@ -56,9 +56,9 @@ fn walk_judged<J: Judge>(
 ) -> Result<Option<Leaf>, CoverFault>
     requires task { IsTask (J.content judge.now) task }
     requires known { IsInFrame known }
-    requires uncut { nat_lt task.cell.last (word_of refuted) ≡ false }
+    requires uncut { nat_lt task.cell.last (ordinal_of refuted) ≡ false }
     requires verdict { verdict ≡ (J.content judge.now).verdict task }
-    ensures walks { Walks (word_of refuted) (visited (J.content judge.now) (word_of refuted) task) known (left letters.old) (left letters.new) result }
+    ensures walks { Walks (ordinal_of refuted) (visited (J.content judge.now) (ordinal_of refuted) task) known (left letters.old) (left letters.new) result }
     ensures in_frame { IfOk result IsInFrame }
 {
     let mark = match letters.next() {
@@ -99,9 +99,9 @@ fn walk_quarters<J: Judge>(
 ) -> Result<Option<Leaf>, CoverFault>
     requires task { IsTask (J.content judge.now) task }
     requires known { IsInFrame known }
-    requires uncut { nat_lt task.cell.last (word_of refuted) ≡ false }
+    requires uncut { nat_lt task.cell.last (ordinal_of refuted) ≡ false }
     requires quartered { (split task.cell).count ≡ 4 }
-    ensures walks { Walks (word_of refuted) (flat_map (visited (J.content judge.now) (word_of refuted)) (child_tasks task)) known (left letters.old) (left letters.new) result }
+    ensures walks { Walks (ordinal_of refuted) (flat_map (visited (J.content judge.now) (ordinal_of refuted)) (child_tasks task)) known (left letters.old) (left letters.new) result }
     ensures in_frame { IfOk result IsInFrame }
 {
     let mut found = known;
@@ -132,7 +132,7 @@ fn walk_halves<J: Judge>(
     requires task { IsTask (J.content judge.now) task }
     requires known { IsInFrame known }
     requires halves { halves.now ≡ children_of task.cell }
-    ensures walks { Walks (word_of refuted) (flat_map (visited (J.content judge.now) (word_of refuted)) (child_tasks task)) known (left letters.old) (left letters.new) result }
+    ensures walks { Walks (ordinal_of refuted) (flat_map (visited (J.content judge.now) (ordinal_of refuted)) (child_tasks task)) known (left letters.old) (left letters.new) result }
     ensures in_frame { IfOk result IsInFrame }
 {
     let mut found = known;

@@ -17,14 +17,14 @@ use Rattle.covering.specs.declared.settled.Settled.{Settled}
 use Rattle.covering.specs.Letters.{is_letter}
 use Rattle.covering.specs.Lines.{IsReadAs, line_data, runs_data, tree_data}
 use Rattle.covering.specs.Runs.{runs_in, runs_text}
-use Rattle.covering.specs.Settles.{IsSettled, refuted_word_of}
+use Rattle.covering.specs.Settles.{IsSettled, refuted_ordinal_of}
 use Rattle.covering.proofs.Spelling.{letters_are}
 use Rattle.covering_check.specs.declared.fault.CoverFault.{CoverFault}
 use Rattle.covering_check.specs.declared.fault.CoverFault.TheVariants.{Column, NotShown}
 use Rattle.covering_check.specs.Checks.{answer_by, shown_by, shown_in, shown_of}
 use Rattle.covering_check.specs.Gives.{◌>>=◌, or_no_line}
 use Rattle.covering_check.specs.Marks.{Marks, marks_in, runs_marks, tree_marks, with_mark}
-use Rattle.covering_check.specs.Members.{claim_in, text_at, word_of_claim}
+use Rattle.covering_check.specs.Members.{claim_in, text_at, ordinal_of_claim}
 use Rattle.covering_check.specs.Visits.{is_letter_for, letter_for, taken, visited}
 use Rattle.covering_check.proofs.Accepted.{tree_accepted}
 use Rattle.covering_check.proofs.TruthLemmas.{by_claim, by_column, by_day, by_letters}
@@ -49,24 +49,24 @@ left_in (Ok rest) = map (λ m. m.letter) rest.marks
 left_in (Err f) = []
 
 -- the first mark has the first cell's letter, and the others are taken by the others
-taken_first : (word : ℕ) (l : Leaf) (ls : List Leaf) (a : _) (rest : Marks) → taken word (l ∷ ls) (with_mark a rest) ≡ Ok (record { marks = []; end = None }) → (is_letter_for (letter_for word l) a.letter ≡ true) × (taken word ls rest ≡ Ok (record { marks = []; end = None }))
-taken_first word l ls a rest = by (is_letter_for (letter_for word l) a.letter)
+taken_first : (ordinal : ℕ) (l : Leaf) (ls : List Leaf) (a : _) (rest : Marks) → taken ordinal (l ∷ ls) (with_mark a rest) ≡ Ok (record { marks = []; end = None }) → (is_letter_for (letter_for ordinal l) a.letter ≡ true) × (taken ordinal ls rest ≡ Ok (record { marks = []; end = None }))
+taken_first ordinal l ls a rest = by (is_letter_for (letter_for ordinal l) a.letter)
   where
-    by : (t : Bool) → (cond t (Ok rest) (Err (NotShown a.place)) >>= taken word ls) ≡ Ok (record { marks = []; end = None }) → (t ≡ true) × (taken word ls rest ≡ Ok (record { marks = []; end = None }))
+    by : (t : Bool) → (cond t (Ok rest) (Err (NotShown a.place)) >>= taken ordinal ls) ≡ Ok (record { marks = []; end = None }) → (t ≡ true) × (taken ordinal ls rest ≡ Ok (record { marks = []; end = None }))
     by true h = (refl, h)
     by false h = absurd (cc)
 
 -- marks of the same letters are taken by the same cells, to the last
-taken_same : (word : ℕ) (ls : List Leaf) (as' bs : _) → taken word ls (record { marks = as'; end = None }) ≡ Ok (record { marks = []; end = None }) → Spell (record { marks = bs; end = None }) (map (λ m. m.letter) as') → taken word ls (record { marks = bs; end = None }) ≡ Ok (record { marks = []; end = None })
-taken_same word [] [] [] h same = refl
-taken_same word [] [] (b ∷ bs) h same = absurd (none_first b.letter (map (λ m. m.letter) bs) (sym same.0))
-taken_same word [] (a ∷ as') bs h same = absurd (none_first a.letter (map (λ m. m.letter) as') (sym (ap left_in h)))
-taken_same word (l ∷ ls) [] bs h same = absurd (cc)
-taken_same word (l ∷ ls) (a ∷ as') [] h same = absurd (none_first a.letter (map (λ m. m.letter) as') same.0)
-taken_same word (l ∷ ls) (a ∷ as') (b ∷ bs) h same =
+taken_same : (ordinal : ℕ) (ls : List Leaf) (as' bs : _) → taken ordinal ls (record { marks = as'; end = None }) ≡ Ok (record { marks = []; end = None }) → Spell (record { marks = bs; end = None }) (map (λ m. m.letter) as') → taken ordinal ls (record { marks = bs; end = None }) ≡ Ok (record { marks = []; end = None })
+taken_same ordinal [] [] [] h same = refl
+taken_same ordinal [] [] (b ∷ bs) h same = absurd (none_first b.letter (map (λ m. m.letter) bs) (sym same.0))
+taken_same ordinal [] (a ∷ as') bs h same = absurd (none_first a.letter (map (λ m. m.letter) as') (sym (ap left_in h)))
+taken_same ordinal (l ∷ ls) [] bs h same = absurd (cc)
+taken_same ordinal (l ∷ ls) (a ∷ as') [] h same = absurd (none_first a.letter (map (λ m. m.letter) as') same.0)
+taken_same ordinal (l ∷ ls) (a ∷ as') (b ∷ bs) h same =
     let both = same_first b.letter a.letter (map (λ m. m.letter) bs) (map (λ m. m.letter) as') same.0 in
-    let first = taken_first word l ls a (record { marks = as'; end = None }) h in
-    rw (ap (is_letter_for (letter_for word l)) both.0 ∙ first.0) (taken_same word ls as' bs first.1 (both.1, refl))
+    let first = taken_first ordinal l ls a (record { marks = as'; end = None }) h in
+    rw (ap (is_letter_for (letter_for ordinal l)) both.0 ∙ first.0) (taken_same ordinal ls as' bs first.1 (both.1, refl))
 
 module _ (c : Content) (k : ℕ) (claim : _) (e : Entry) where
   -- an answer has spent all letters
@@ -76,24 +76,24 @@ module _ (c : Content) (k : ℕ) (claim : _) (e : Entry) where
   all_spent (m ∷ marks) end h = absurd (cc)
 
   shown_same : (letters : List ℕ) (m n : Marks) → Spell m letters → Spell n letters → shown_by c k claim m ≡ Ok e → shown_by c k claim n ≡ Ok e
-  shown_same letters m n first second = by (taken word cells m) refl
+  shown_same letters m n first second = by (taken ordinal cells m) refl
     where
-      word : ℕ
-      word = word_of_claim claim
+      ordinal : ℕ
+      ordinal = ordinal_of_claim claim
 
       cells : List Leaf
-      cells = visited c word (root_task c k)
+      cells = visited c ordinal (root_task c k)
 
       none : Marks
       none = record { marks = []; end = None }
 
-      by : (r : Result Marks CoverFault) → taken word cells m ≡ r → (r >>= answer_by c k claim) ≡ Ok e → shown_by c k claim n ≡ Ok e
+      by : (r : Result Marks CoverFault) → taken ordinal cells m ≡ r → (r >>= answer_by c k claim) ≡ Ok e → shown_by c k claim n ≡ Ok e
       by (Err f) is h = absurd (cc)
       by (Ok rest) is h =
           let spent = all_spent rest.marks rest.end h in
           let rest_is : rest ≡ none = λ i. record { marks = spent.0 i; end = spent.1 i } in
-          let m_is : taken word cells (record { marks = m.marks; end = None }) ≡ Ok none = ap (λ (o : Option CoverFault). taken word cells (record { marks = m.marks; end = o })) (sym first.1) ∙ (is ∙ ap (λ r. Ok r) rest_is) in
-          let n_is : taken word cells n ≡ Ok none = ap (λ (o : Option CoverFault). taken word cells (record { marks = n.marks; end = o })) second.1 ∙ taken_same word cells m.marks n.marks m_is (second.0 ∙ sym first.0, refl) in
+          let m_is : taken ordinal cells (record { marks = m.marks; end = None }) ≡ Ok none = ap (λ (o : Option CoverFault). taken ordinal cells (record { marks = m.marks; end = o })) (sym first.1) ∙ (is ∙ ap (λ r. Ok r) rest_is) in
+          let n_is : taken ordinal cells n ≡ Ok none = ap (λ (o : Option CoverFault). taken ordinal cells (record { marks = n.marks; end = o })) second.1 ∙ taken_same ordinal cells m.marks n.marks m_is (second.0 ∙ sym first.0, refl) in
           ap (λ (r : Result Marks CoverFault). r >>= answer_by c k claim) (n_is ∙ ap (λ r. Ok r) (sym rest_is)) ∙ h
 
 -- ---- what a line shows, by its claim and its letters
@@ -142,7 +142,7 @@ runs_accepted c law k known s is column day line reads =
     let own = tree_document c law k known s is [] [] (IsUtf8-are_ascii [] refl) (IsUtf8-are_ascii [] refl) in
     let tree = compact_text (tree_data [] [] s) in
     let shown = sym (shown_by_claim c k [] [] s (codes "tree") s.letters tree (tree_marks s.letters) own (tree_at [] [] s)) ∙ tree_accepted c law k known s is [] [] tree own in
-    let one = tree_again s.letters 0 (subst (λ bs. list_all is_letter bs ≡ true) (sym is.letters) (letters_are c (refuted_word_of c k) (root_task c k))) in
+    let one = tree_again s.letters 0 (subst (λ bs. list_all is_letter bs ≡ true) (sym is.letters) (letters_are c (refuted_ordinal_of c k) (root_task c k))) in
     let runs = runs_again s.letters (subst (λ (ls : List ℕ). Every IsRun (runs_in ls)) (sym is.letters) (runs_are_short c law k known)) in
     shown_by_claim c k column day s (codes "runs") (runs_text s.letters) line (runs_marks (runs_text s.letters)) reads (runs_at column day s)
     ∙ same_answer c k (claim_in (tree_data [] [] s)) s.letters (tree_marks s.letters) (runs_marks (runs_text s.letters)) s.entry one runs shown

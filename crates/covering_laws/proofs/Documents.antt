@@ -27,7 +27,7 @@ use Rattle.covering.specs.Letters.{is_letter}
 use Rattle.covering.specs.Lines.{IsReadAs, cell_data, line_data, members_data, point_data, runs_data, tree_data}
 use Rattle.covering.specs.Refuted.{rank_of}
 use Rattle.covering.specs.Runs.{run_text, runs_in, runs_text}
-use Rattle.covering.specs.Settles.{IsSettled, refuted_word_of}
+use Rattle.covering.specs.Settles.{IsSettled, refuted_ordinal_of}
 use Rattle.plain_search.proofs.OpenLeaves.{greatest_in_frame}
 use Rattle.covering.proofs.Running.{letters_utf8}
 use Rattle.covering.proofs.Spelling.{letters_are}
@@ -47,9 +47,9 @@ IsSmallCell None = ⊤
 IsSmallCell (Some found) =
     (IsSmall found.0.x × IsSmall found.0.y) × ((found.0.size ≤ 29) × ((found.0.first ≤ 720) × (found.0.last ≤ 720)))
 
-small_by : (c : Content) → IsLawful c → (k word : ℕ) (found : Option (Cell × Point)) → IsClaim c k word found → IsSmallCell found
-small_by c law k word None h = tt
-small_by c law k word (Some found) h =
+small_by : (c : Content) → IsLawful c → (k ordinal : ℕ) (found : Option (Cell × Point)) → IsClaim c k ordinal found → IsSmallCell found
+small_by c law k ordinal None h = tt
+small_by c law k ordinal (Some found) h =
     let of_root = cell_is c.root found.0 (and_left (is_cell_of c.root found.0) _ h.1) in
     let limits = cell_limits found.0 (record { root = c.root; is_root = law.root; of_root = of_root }) in
     let formed = of_root.formed in
@@ -142,17 +142,17 @@ runs_plain ((n, b) ∷ runs) h = plain-append (run_text (n, b)) (flat_map run_te
 
 module _ (c : Content) (law : IsLawful c) (k : ℕ) (known : k < c.problems) (s : Settled) (is : IsSettled c k s) where
   cell : IsSmallCell s.refuted
-  cell = small_by c law k (refuted_word_of c k) s.refuted (subst (IsClaim c k (refuted_word_of c k)) (sym is.refuted) (claim_is c law k known))
+  cell = small_by c law k (refuted_ordinal_of c k) s.refuted (subst (IsClaim c k (refuted_ordinal_of c k)) (sym is.refuted) (claim_is c law k known))
 
   rank : IsSmall s.r
   rank =
       let frame = greatest_in_frame (λ l. is_refuted l.verdict) c k law known in
-      let same : s.r ≡ rank_of (refuted_word_of c k) = is.rank in
+      let same : s.r ≡ rank_of (refuted_ordinal_of c k) = is.rank in
       (omega (arith, ints, same, frame), omega (arith, ints, same, frame))
 
   pub tree_document : (column day : List ℕ) → IsUtf8 column → IsUtf8 day → IsReadAs (tree_data column day s) (compact_text (tree_data column day s))
   tree_document column day column_is day_is =
-      let letters = letters_utf8 s.letters (subst (λ bs. list_all is_letter bs ≡ true) (sym is.letters) (letters_are c (refuted_word_of c k) (root_task c k))) in
+      let letters = letters_utf8 s.letters (subst (λ bs. list_all is_letter bs ≡ true) (sym is.letters) (letters_are c (refuted_ordinal_of c k) (root_task c k))) in
       line_read column day (codes "tree") s.letters s.r s.refuted column_is day_is refl letters rank cell
       (tree_again column day (point_data s.refuted) (cell_data s.refuted) s.r s.letters (point_again s.refuted) (cell_again s.refuted cell) (number_read s.r rank))
 

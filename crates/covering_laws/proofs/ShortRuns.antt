@@ -10,7 +10,7 @@ use Rattle.cell_split.specs.declared.cell.Task.{Task}
 use Rattle.cell_split.specs.declared.verdict.Leaf.{Leaf}
 use Rattle.cell_split.specs.declared.verdict.Verdict.{Verdict}
 use Rattle.cell_split.specs.declared.verdict.Verdict.TheVariants.{Outside, Proved, Refuted, Split, Open}
-use Rattle.cell_split.specs.Entries.{greatest_word, last_word, refuted_word}
+use Rattle.cell_split.specs.Entries.{greatest_ordinal, last_ordinal, refuted_ordinal}
 use Rattle.cell_split.specs.Judges.{Content, IsLawful, IsTask}
 use Rattle.cell_split.specs.Split.{children_of}
 use Rattle.cell_split.specs.Tree.{leaf_of, leaves, levels, root_task, task_of}
@@ -21,7 +21,7 @@ use Rattle.cell_split.proofs.SplitLemmas.{by_split, levels_fall, smallest_is}
 use Rattle.cell_split.proofs.TreeLemmas.{leaves_of_leaf, leaves_of_split}
 use Rattle.covering.specs.Letters.{is_letter, letter_of, letters_of}
 use Rattle.covering.specs.Runs.{runs_in, with_run}
-use Rattle.covering.specs.Settles.{refuted_word_of}
+use Rattle.covering.specs.Settles.{refuted_ordinal_of}
 use Rattle.plain_search.proofs.Greatest.{greatest-append}
 use Rattle.covering.proofs.Spelling.{letters_of_cut, letters_of_leaf, letters_of_split}
 use Rattle.covering_laws.proofs.Runs.{IsRun}
@@ -114,21 +114,21 @@ lengthens_split f n (t ∷ ts) few h splits others rest bound short =
 
 -- ---- the letters of each task
 
--- no leaf of it is refuted above the word
+-- no leaf of it is refuted above the ordinal
 abbrev IsLow : Content → ℕ → Task → Type 0
-IsLow c word t = IsTask c t × (refuted_word (leaves c t) ≤ word)
+IsLow c ordinal t = IsTask c t × (refuted_ordinal (leaves c t) ≤ ordinal)
 
-greatest_parts : {X : Type 0} (test : Leaf → Bool) (n : ℕ) (f : X → List Leaf) (xs : List X) → greatest_word test (flat_map f xs) ≤ n → Every (λ x. greatest_word test (f x) ≤ n) xs
+greatest_parts : {X : Type 0} (test : Leaf → Bool) (n : ℕ) (f : X → List Leaf) (xs : List X) → greatest_ordinal test (flat_map f xs) ≤ n → Every (λ x. greatest_ordinal test (f x) ≤ n) xs
 greatest_parts test n f [] h = tt
 greatest_parts test n f (x ∷ xs) h =
     let parts = greatest-append test (f x) (flat_map f xs) in
     (omega arith, greatest_parts test n f xs (omega arith))
 
-low_down : (c : Content) (word : ℕ) → PassesDown c (IsLow c word)
-low_down c word t k s =
+low_down : (c : Content) (ordinal : ℕ) → PassesDown c (IsLow c ordinal)
+low_down c ordinal t k s =
     let below = leaves_of_split c t s ∙ flat_map-map (leaves c) (task_of t.problem) (children_of t.cell) in
-    Every-both (λ d. IsTask c (task_of t.problem d)) (λ d. refuted_word (leaves c (task_of t.problem d)) ≤ word) (children_of t.cell) (tasks_down c t k.0 s)
-    (greatest_parts (λ l. is_refuted l.verdict) word (λ d. leaves c (task_of t.problem d)) (children_of t.cell) (subst (λ ls. refuted_word ls ≤ word) below k.1))
+    Every-both (λ d. IsTask c (task_of t.problem d)) (λ d. refuted_ordinal (leaves c (task_of t.problem d)) ≤ ordinal) (children_of t.cell) (tasks_down c t k.0 s)
+    (greatest_parts (λ l. is_refuted l.verdict) ordinal (λ d. leaves c (task_of t.problem d)) (children_of t.cell) (subst (λ ls. refuted_ordinal ls ≤ ordinal) below k.1))
 
 lengthens_verdict : (n : ℕ) (v : Verdict) → is_split v ≡ false → is_refuted v ≡ false → Lengthens n (option_to_list (letter_of v) ++ [])
 lengthens_verdict n Outside s r = lengthens_letter n 120 refl refl
@@ -138,29 +138,29 @@ lengthens_verdict n (Refuted p) s r = absurd (false≢true (sym r))
 lengthens_verdict n Split s r = absurd (false≢true (sym s))
 
 -- a leaf that isn't cut isn't refuted
-unrefuted : (c : Content) (word : ℕ) (t : Task) → IsLow c word t → is_split (c.verdict t) ≡ false → ltb t.cell.last word ≡ false → is_refuted (c.verdict t) ≡ false
-unrefuted c word t k s uncut = by (is_refuted (c.verdict t)) refl
+unrefuted : (c : Content) (ordinal : ℕ) (t : Task) → IsLow c ordinal t → is_split (c.verdict t) ≡ false → ltb t.cell.last ordinal ≡ false → is_refuted (c.verdict t) ≡ false
+unrefuted c ordinal t k s uncut = by (is_refuted (c.verdict t)) refl
   where
     by : (b : Bool) → is_refuted (c.verdict t) ≡ b → is_refuted (c.verdict t) ≡ false
     by false e = e
     by true e =
-        let late : max (last_word (leaf_of c t)) 0 ≤ word = subst (λ (b : Bool). max (cond b (last_word (leaf_of c t)) 0) 0 ≤ word) e (subst (λ ls. refuted_word ls ≤ word) (leaves_of_leaf c t s) k.1) in
-        let above : word ≤ t.cell.last = grind (arith, nat_tests) in
+        let late : max (last_ordinal (leaf_of c t)) 0 ≤ ordinal = subst (λ (b : Bool). max (cond b (last_ordinal (leaf_of c t)) 0) 0 ≤ ordinal) e (subst (λ ls. refuted_ordinal ls ≤ ordinal) (leaves_of_leaf c t s) k.1) in
+        let above : ordinal ≤ t.cell.last = grind (arith, nat_tests) in
         absurd (omega arith)
 
 -- the letters of each task, with as many levels as it has
 abbrev LettersLengthen : Content → ℕ → Task → Type 0
-LettersLengthen c word t = Lengthens (levels t.cell) (letters_of c word t)
+LettersLengthen c ordinal t = Lengthens (levels t.cell) (letters_of c ordinal t)
 
-at_cut : (c : Content) (word : ℕ) (t : Task) → ltb t.cell.last word ≡ true → LettersLengthen c word t
-at_cut c word t cut = subst (Lengthens (levels t.cell)) (sym (letters_of_cut c word t cut)) (lengthens_letter (levels t.cell) 107 refl refl)
+at_cut : (c : Content) (ordinal : ℕ) (t : Task) → ltb t.cell.last ordinal ≡ true → LettersLengthen c ordinal t
+at_cut c ordinal t cut = subst (Lengthens (levels t.cell)) (sym (letters_of_cut c ordinal t cut)) (lengthens_letter (levels t.cell) 107 refl refl)
 
-at_leaf : (c : Content) (word : ℕ) (t : Task) → IsLow c word t → is_split (c.verdict t) ≡ false → LettersLengthen c word t
-at_leaf c word t k s = by (ltb t.cell.last word) refl
+at_leaf : (c : Content) (ordinal : ℕ) (t : Task) → IsLow c ordinal t → is_split (c.verdict t) ≡ false → LettersLengthen c ordinal t
+at_leaf c ordinal t k s = by (ltb t.cell.last ordinal) refl
   where
-    by : (b : Bool) → ltb t.cell.last word ≡ b → LettersLengthen c word t
-    by true cut = at_cut c word t cut
-    by false uncut = subst (Lengthens (levels t.cell)) (sym (letters_of_leaf c word t uncut s)) (lengthens_verdict (levels t.cell) (c.verdict t) s (unrefuted c word t k s uncut))
+    by : (b : Bool) → ltb t.cell.last ordinal ≡ b → LettersLengthen c ordinal t
+    by true cut = at_cut c ordinal t cut
+    by false uncut = subst (Lengthens (levels t.cell)) (sym (letters_of_leaf c ordinal t uncut s)) (lengthens_verdict (levels t.cell) (c.verdict t) s (unrefuted c ordinal t k s uncut))
 
 split_letter : (v : Verdict) (below : List ℕ) → is_split v ≡ true → option_to_list (letter_of v) ++ below ≡ 115 ∷ below
 split_letter Split below s = refl
@@ -169,40 +169,40 @@ split_letter Proved below s = absurd (false≢true s)
 split_letter (Refuted p) below s = absurd (false≢true s)
 split_letter (Open p) below s = absurd (false≢true s)
 
-at_split : (c : Content) (word : ℕ) (t : Task) → IsLawful c → IsTask c t → is_split (c.verdict t) ≡ true → Every (λ d. LettersLengthen c word (task_of t.problem d)) (children_of t.cell) → LettersLengthen c word t
-at_split c word t law k s below = by (ltb t.cell.last word) refl
+at_split : (c : Content) (ordinal : ℕ) (t : Task) → IsLawful c → IsTask c t → is_split (c.verdict t) ≡ true → Every (λ d. LettersLengthen c ordinal (task_of t.problem d)) (children_of t.cell) → LettersLengthen c ordinal t
+at_split c ordinal t law k s below = by (ltb t.cell.last ordinal) refl
   where
     n : ℕ
     n = t.cell.size + (t.cell.last - t.cell.first)
 
     letters : Cell → List ℕ
-    letters d = letters_of c word (task_of t.problem d)
+    letters d = letters_of c ordinal (task_of t.problem d)
 
     each : Every (λ d. Lengthens n (letters d)) (children_of t.cell)
     each =
-        Every-weaker (λ d. (levels d < levels t.cell) × LettersLengthen c word (task_of t.problem d)) (λ d. Lengthens n (letters d)) (children_of t.cell)
+        Every-weaker (λ d. (levels d < levels t.cell) × LettersLengthen c ordinal (task_of t.problem d)) (λ d. Lengthens n (letters d)) (children_of t.cell)
         (λ d h. lengthens_more (levels d) n (letters d) (let fewer = h.0 in omega arith) h.1)
-        (Every-both (λ d. levels d < levels t.cell) (λ d. LettersLengthen c word (task_of t.problem d)) (children_of t.cell) (levels_fall t.cell) below)
+        (Every-both (λ d. levels d < levels t.cell) (λ d. LettersLengthen c ordinal (task_of t.problem d)) (children_of t.cell) (levels_fall t.cell) below)
 
-    by : (b : Bool) → ltb t.cell.last word ≡ b → LettersLengthen c word t
-    by true cut = at_cut c word t cut
+    by : (b : Bool) → ltb t.cell.last ordinal ≡ b → LettersLengthen c ordinal t
+    by true cut = at_cut c ordinal t cut
     by false uncut =
-        let spelled = letters_of_split c word t uncut s ∙ split_letter (c.verdict t) (flat_map letters (children_of t.cell)) s in
+        let spelled = letters_of_split c ordinal t uncut s ∙ split_letter (c.verdict t) (flat_map letters (children_of t.cell)) s in
         subst (Lengthens (levels t.cell)) (sym spelled)
         (lengthens_more (n + 1) (levels t.cell) (115 ∷ flat_map letters (children_of t.cell)) (omega arith) (lengthens_split letters n (children_of t.cell) (few_children c t law k s) each))
 
-letters_lengthen : (c : Content) (word : ℕ) (t : Task) → IsLawful c → IsLow c word t → LettersLengthen c word t
-letters_lengthen c word t law k =
-    by_tree c (IsLow c word) (λ u ls. LettersLengthen c word u) (low_down c word)
-    (λ u h s. at_leaf c word u h s) (λ u h s below. at_split c word u law h.0 s below) (levels t.cell) t (omega arith) k
+letters_lengthen : (c : Content) (ordinal : ℕ) (t : Task) → IsLawful c → IsLow c ordinal t → LettersLengthen c ordinal t
+letters_lengthen c ordinal t law k =
+    by_tree c (IsLow c ordinal) (λ u ls. LettersLengthen c ordinal u) (low_down c ordinal)
+    (λ u h s. at_leaf c ordinal u h s) (λ u h s below. at_split c ordinal u law h.0 s below) (levels t.cell) t (omega arith) k
 
 -- each run of a settled tree has at most nine digits
-pub runs_are_short : (c : Content) → IsLawful c → (problem : ℕ) → problem < c.problems → Every IsRun (runs_in (letters_of c (refuted_word_of c problem) (root_task c problem)))
+pub runs_are_short : (c : Content) → IsLawful c → (problem : ℕ) → problem < c.problems → Every IsRun (runs_in (letters_of c (refuted_ordinal_of c problem) (root_task c problem)))
 runs_are_short c law problem known =
-    let word = refuted_word_of c problem in
+    let ordinal = refuted_ordinal_of c problem in
     let t = root_task c problem in
     let task = root_is_task c law problem known in
     let large = task.cell.formed.not_large in
     let frame = task.cell.formed.in_frame in
-    let short = letters_lengthen c word t law (task, omega arith) 0 0 [] (omega arith) (tt, tt) in
-    subst (λ (ls : List ℕ). Every IsRun (runs_in ls)) (append-nil (letters_of c word t)) short.0
+    let short = letters_lengthen c ordinal t law (task, omega arith) 0 0 [] (omega arith) (tt, tt) in
+    subst (λ (ls : List ℕ). Every IsRun (runs_in ls)) (append-nil (letters_of c ordinal t)) short.0

@@ -9,7 +9,7 @@ use Rattle.cell_split.specs.declared.verdict.Entry.{Entry}
 use Rattle.cell_split.specs.Judges.{Content}
 use Rattle.covering.specs.Lines.{cell_data, members_data, point_data, runs_line, tree_line}
 use Rattle.covering.specs.Refuted.{rank_of}
-use Rattle.covering.specs.Settles.{IsSettled, refuted_word_of}
+use Rattle.covering.specs.Settles.{IsSettled, refuted_ordinal_of}
 use Rattle.covering.specs.declared.settled.Settled.{Settled}
 use Rattle.cell_judge.specs.Skies.{sky_content}
 use Rattle.method_table.specs.declared.problem.Problem.{Problem}
@@ -47,7 +47,7 @@ line_is form column date c k s is =
     compact_text (members_data column date (point_data o) r (cell_data o) (letters_name form) (text bs)) ++ 10 ∷ [] in
     ap (line s.refuted s.r) is.letters
     ∙ (ap (λ (r : ℤ). line s.refuted r (tree_letters c k)) is.rank
-    ∙ ap (λ (o : Option (Cell × Point)). line o (rank_of (refuted_word_of c k)) (tree_letters c k)) is.refuted)
+    ∙ ap (λ (o : Option (Cell × Point)). line o (rank_of (refuted_ordinal_of c k)) (tree_letters c k)) is.refuted)
 
 -- a line that was written in its form
 pub letters_line : {E : Type 0} (form : Form) (column date : List ℕ) (s : Settled) (r : Result (Vec ℕ Global) E) → form ≡ Letters →

@@ -15,7 +15,7 @@ use Rattle.cell_split.specs.declared.cell.Cell.{Cell}
 use Rattle.cell_split.specs.declared.verdict.Leaf.{Leaf}
 use Rattle.cell_split.specs.declared.verdict.Verdict.{Verdict}
 use Rattle.cell_split.specs.Cells.{IsCellOf, IsRoot}
-use Rattle.cell_split.specs.Entries.{last_word}
+use Rattle.cell_split.specs.Entries.{last_ordinal}
 use Rattle.cell_split.specs.Judges.{Content, IsLawful}
 use Rattle.cell_split.specs.Laws.{IsChildOf}
 use Rattle.cell_split.specs.Renumbered.{AnswersAs, renumbered}
@@ -30,7 +30,7 @@ use Rattle.cell_judge.specs.Skies.{row_at, sky_content, verdict_on}
 use Rattle.covering.specs.declared.settled.Settled.{Settled}
 use Rattle.covering.specs.Letters.{cut, letter_of, letters_of}
 use Rattle.covering.specs.Refuted.{first_refuted, rank_of, refuted_at}
-use Rattle.covering.specs.Settles.{IsSettled, leaves_of, refuted_word_of}
+use Rattle.covering.specs.Settles.{IsSettled, leaves_of, refuted_ordinal_of}
 use Rattle.covering.proofs.Spelling.{letters-step}
 use Rattle.cell_judge.specs.declared.sky.Sky.{Sky}
 use Rattle.days_sky.specs.declared.day.Day.{Day}
@@ -39,24 +39,24 @@ use Rattle.days_sky.proofs.DayLemmas.{own_answers}
 
 -- the letters of a task with this verdict, whose children have these
 abbrev lettered : ℕ → Cell → List ℕ → Verdict → List ℕ
-lettered word cell below v =
-    cond (ltb cell.last word) (cut ∷ []) (option_to_list (letter_of v) ++ cond (is_split v) below [])
+lettered ordinal cell below v =
+    cond (ltb cell.last ordinal) (cut ∷ []) (option_to_list (letter_of v) ++ cond (is_split v) below [])
 
 -- the letters below a cell
-letters_below : (c other : Content) (j k word : ℕ) → AnswersAs c j other k → (n : ℕ) (cell : Cell) → levels cell ≤ n → IsCellOf other.root cell →
-    letters_of c word (task_of j cell) ≡ letters_of other word (task_of k cell)
-letters_below c other j k word answers zero cell small is = absurd (omega arith)
-letters_below c other j k word answers (suc n) cell small is =
-    let below : flat_map (letters_of c word) (child_tasks (task_of j cell)) ≡ flat_map (letters_of other word) (child_tasks (task_of k cell)) =
-    flat_map-map (letters_of c word) (task_of j) (children_of cell)
-    ∙ (flat_map_same (λ d. letters_of c word (task_of j d)) (λ d. letters_of other word (task_of k d)) (children_of cell)
-    (Every-weaker (IsChildOf other.root cell) (λ d. letters_of c word (task_of j d) ≡ letters_of other word (task_of k d)) (children_of cell)
-    (λ d h. letters_below c other j k word answers n d (omega (arith, h.falls)) h.is_cell) (children_are other.root cell is))
-    ∙ sym (flat_map-map (letters_of other word) (task_of k) (children_of cell))) in
-    letters-step c word (task_of j cell)
-    ∙ (ap (lettered word cell (flat_map (letters_of c word) (child_tasks (task_of j cell)))) (answers.same_verdicts cell is)
-    ∙ (ap (λ bs. lettered word cell bs (other.verdict (task_of k cell))) below
-    ∙ sym (letters-step other word (task_of k cell))))
+letters_below : (c other : Content) (j k ordinal : ℕ) → AnswersAs c j other k → (n : ℕ) (cell : Cell) → levels cell ≤ n → IsCellOf other.root cell →
+    letters_of c ordinal (task_of j cell) ≡ letters_of other ordinal (task_of k cell)
+letters_below c other j k ordinal answers zero cell small is = absurd (omega arith)
+letters_below c other j k ordinal answers (suc n) cell small is =
+    let below : flat_map (letters_of c ordinal) (child_tasks (task_of j cell)) ≡ flat_map (letters_of other ordinal) (child_tasks (task_of k cell)) =
+    flat_map-map (letters_of c ordinal) (task_of j) (children_of cell)
+    ∙ (flat_map_same (λ d. letters_of c ordinal (task_of j d)) (λ d. letters_of other ordinal (task_of k d)) (children_of cell)
+    (Every-weaker (IsChildOf other.root cell) (λ d. letters_of c ordinal (task_of j d) ≡ letters_of other ordinal (task_of k d)) (children_of cell)
+    (λ d h. letters_below c other j k ordinal answers n d (omega (arith, h.falls)) h.is_cell) (children_are other.root cell is))
+    ∙ sym (flat_map-map (letters_of other ordinal) (task_of k) (children_of cell))) in
+    letters-step c ordinal (task_of j cell)
+    ∙ (ap (lettered ordinal cell (flat_map (letters_of c ordinal) (child_tasks (task_of j cell)))) (answers.same_verdicts cell is)
+    ∙ (ap (λ bs. lettered ordinal cell bs (other.verdict (task_of k cell))) below
+    ∙ sym (letters-step other ordinal (task_of k cell))))
 
 -- the first refuted leaf
 refuted_choice : (b : Bool) (j : ℕ) (l : Leaf) (o p : Option Leaf) → option_and_then refuted_at o ≡ option_and_then refuted_at p →
@@ -64,25 +64,25 @@ refuted_choice : (b : Bool) (j : ℕ) (l : Leaf) (o p : Option Leaf) → option_
 refuted_choice true j l o p h = refl
 refuted_choice false j l o p h = h
 
-refuted_same : (j word : ℕ) (ls : List Leaf) → first_refuted word (map (renumbered j) ls) ≡ first_refuted word ls
-refuted_same j word [] = refl
-refuted_same j word (l ∷ ls) =
-    refuted_choice (is_refuted l.verdict && (last_word l == word)) j l (find (λ m. is_refuted m.verdict && (last_word m == word)) (map (renumbered j) ls))
-    (find (λ m. is_refuted m.verdict && (last_word m == word)) ls) (refuted_same j word ls)
+refuted_same : (j ordinal : ℕ) (ls : List Leaf) → first_refuted ordinal (map (renumbered j) ls) ≡ first_refuted ordinal ls
+refuted_same j ordinal [] = refl
+refuted_same j ordinal (l ∷ ls) =
+    refuted_choice (is_refuted l.verdict && (last_ordinal l == ordinal)) j l (find (λ m. is_refuted m.verdict && (last_ordinal m == ordinal)) (map (renumbered j) ls))
+    (find (λ m. is_refuted m.verdict && (last_ordinal m == ordinal)) ls) (refuted_same j ordinal ls)
 
 pub settled_as : (c other : Content) → IsLawful other → (j k : ℕ) → AnswersAs c j other k → (s : Settled) → IsSettled c j s → IsSettled other k s
 settled_as c other law j k answers s is =
     let tree = renumbered_trees c other law j k answers in
-    let word = refuted_word_of other k in
-    let letters : letters_of c word (root_task c j) ≡ letters_of other word (root_task other k) =
-    ap (λ (root : Cell). letters_of c word (task_of j root)) answers.same_root
-    ∙ letters_below c other j k word answers (levels other.root) other.root (omega arith) (root_in_itself other law) in
+    let ordinal = refuted_ordinal_of other k in
+    let letters : letters_of c ordinal (root_task c j) ≡ letters_of other ordinal (root_task other k) =
+    ap (λ (root : Cell). letters_of c ordinal (task_of j root)) answers.same_root
+    ∙ letters_below c other j k ordinal answers (levels other.root) other.root (omega arith) (root_in_itself other law) in
     record {
       entry = is.entry ∙ tree.same_entry;
       rank = is.rank ∙ ap rank_of tree.same_refuted;
       letters = is.letters ∙ ap (λ (w : ℕ). letters_of c w (root_task c j)) tree.same_refuted ∙ letters;
-      refuted = is.refuted ∙ ap (λ (w : ℕ). first_refuted w (leaves_of c j)) tree.same_refuted ∙ ap (first_refuted word) tree.same_leaves
-          ∙ refuted_same j word (leaves_of other k);
+      refuted = is.refuted ∙ ap (λ (w : ℕ). first_refuted w (leaves_of c j)) tree.same_refuted ∙ ap (first_refuted ordinal) tree.same_leaves
+          ∙ refuted_same j ordinal (leaves_of other k);
     }
 
 -- problem 7 i + k of several days is settled as problem k of day i's own sky

@@ -9,7 +9,7 @@ use Rattle.covering.specs.Letters.{letters_of}
 use Rattle.covering.specs.Lines.{cell_data, members_data, point_data}
 use Rattle.covering.specs.Refuted.{first_refuted, rank_of}
 use Rattle.covering.specs.Runs.{runs_text}
-use Rattle.covering.specs.Settles.{leaves_of, refuted_word_of}
+use Rattle.covering.specs.Settles.{leaves_of, refuted_ordinal_of}
 use Rattle.method_table.specs.Row.{Row, column_word}
 use Rattle.night_portion.specs.Sun.{repeated}
 use Rattle.order_rule.specs.Asked.{Asked}
@@ -36,16 +36,16 @@ letters_text Runs letters = runs_text letters
 
 -- the first refuted leaf of the greatest refuted rank, and the place that refutes it
 abbrev pub refuted_of : Content → ℕ → Option (Cell × Point)
-refuted_of c k = first_refuted (refuted_word_of c k) (leaves_of c k)
+refuted_of c k = first_refuted (refuted_ordinal_of c k) (leaves_of c k)
 
 -- the letters of a problem's tree, cut at the greatest refuted rank
 abbrev pub tree_letters : Content → ℕ → List ℕ
-tree_letters c k = letters_of c (refuted_word_of c k) (root_task c k)
+tree_letters c k = letters_of c (refuted_ordinal_of c k) (root_task c k)
 
 -- the line of a problem's tree, for a column and a date
 unfoldable pub line_of : Form → List ℕ → List ℕ → Content → ℕ → List ℕ
 line_of form column date c k =
-    compact_text (members_data column date (point_data (refuted_of c k)) (rank_of (refuted_word_of c k)) (cell_data (refuted_of c k))
+    compact_text (members_data column date (point_data (refuted_of c k)) (rank_of (refuted_ordinal_of c k)) (cell_data (refuted_of c k))
     (letters_name form) (letters_text form (tree_letters c k))) ++ 10 ∷ []
 
 -- the line of a column of a day, over a district

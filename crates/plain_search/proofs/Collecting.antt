@@ -14,7 +14,7 @@ use Rattle.cell_split.specs.Verdicts.{is_split, is_refuted}
 use Rattle.cell_split.specs.Judges.{Content, IsTask}
 use Rattle.cell_split.specs.Split.{children_of}
 use Rattle.cell_split.specs.Tree.{child_tasks, task_of, leaf_of, leaves}
-use Rattle.cell_split.specs.Entries.{last_word, refuted_word}
+use Rattle.cell_split.specs.Entries.{last_ordinal, refuted_ordinal}
 use Rattle.cell_split.proofs.Every.{Every}
 use Rattle.cell_split.proofs.TreeLemmas.{leaves_of_leaf, leaves_of_split}
 use Rattle.cell_split.proofs.LeafLemmas.{IsUnder, leaves_under}
@@ -26,22 +26,22 @@ use Rattle.plain_search.proofs.Greatest.{greatest-append}
 use Rattle.plain_search.proofs.Reordered.{contained_reordered, greatest_reordered, weight_reordered}
 
 -- the leaves below a task have no greater rank than its cell
-pub refuted_word-below : (t : Task) (xs : List Leaf) → Every (IsUnder t) xs → refuted_word xs ≤ t.cell.last + 1
-refuted_word-below t [] below = omega arith
-refuted_word-below t (x ∷ xs) below =
-    let h = refuted_word-below t xs below.1 in
+pub refuted_ordinal-below : (t : Task) (xs : List Leaf) → Every (IsUnder t) xs → refuted_ordinal xs ≤ t.cell.last + 1
+refuted_ordinal-below t [] below = omega arith
+refuted_ordinal-below t (x ∷ xs) below =
+    let h = refuted_ordinal-below t xs below.1 in
     let last = below.0.inside.last in
-    elim (is_refuted x.verdict) as (λ b. max (cond b (last_word x) 0) (refuted_word xs) ≤ t.cell.last + 1) [ true ↦ omega arith | false ↦ omega arith ]
+    elim (is_refuted x.verdict) as (λ b. max (cond b (last_ordinal x) 0) (refuted_ordinal xs) ≤ t.cell.last + 1) [ true ↦ omega arith | false ↦ omega arith ]
 
 -- where the task's last rank is at most the rank of its problem, no leaf below it is above that
-pub none_above : (words : ℕ → ℕ) (t : Task) (xs : List Leaf) → Every (IsUnder t) xs → t.cell.last < words t.problem → filter (is_above words) xs ≡ []
-none_above words t [] below known = refl
-none_above words t (x ∷ xs) below known =
+pub none_above : (ordinals : ℕ → ℕ) (t : Task) (xs : List Leaf) → Every (IsUnder t) xs → t.cell.last < ordinals t.problem → filter (is_above ordinals) xs ≡ []
+none_above ordinals t [] below known = refl
+none_above ordinals t (x ∷ xs) below known =
     let problem = below.0.same in
     let last = below.0.inside.last in
-    let same : words x.task.problem ≡ words t.problem = ap words problem in
-    let out : is_above words x ≡ false = grind (arith, nat_tests) in
-    rw out (none_above words t xs below.1 known)
+    let same : ordinals x.task.problem ≡ ordinals t.problem = ap ordinals problem in
+    let out : is_above ordinals x ≡ false = grind (arith, nat_tests) in
+    rw out (none_above ordinals t xs below.1 known)
 
 -- the weights of two lists behind each other
 pub weight-append : (weight : Leaf → ℕ) (test : Leaf → Bool) (as' bs xs ys : List Leaf) → sum_by weight (filter test as') ≡ sum_by weight (filter test xs) → sum_by weight (filter test bs) ≡ sum_by weight (filter test ys)
@@ -53,7 +53,7 @@ weight-append weight test as' bs xs ys first second =
 
 -- nothing to search
 pub collects-none : (k w : ℕ) (found : List Leaf) → Collects k [] w w found found
-collects-none k w found = record { kept = []; behind = sym (append-nil found); word = omega arith; above = λ words h weight. refl; part = All-nil (Contains []) }
+collects-none k w found = record { kept = []; behind = sym (append-nil found); ordinal = omega arith; above = λ ordinals h weight. refl; part = All-nil (Contains []) }
 
 -- one part after another
 pub collects-more : (k u v w : ℕ) (xs ys f g h : List Leaf) → Collects k xs u v f g → Collects k ys v w g h → Collects k (xs ++ ys) u w f h
@@ -62,8 +62,8 @@ collects-more k u v w xs ys f g h first second =
     let b = second.kept in record {
       kept = a ++ b;
       behind = second.behind ∙ (ap (λ (l : List Leaf). l ++ b) first.behind ∙ append_assoc f a b);
-      word = omega (arith, first.word, second.word, greatest-append (λ l. is_refuted l.verdict) xs ys);
-      above = λ words known weight. weight-append weight (is_above words) a b xs ys (first.above words (omega (arith, second.word)) weight) (second.above words known weight);
+      ordinal = omega (arith, first.ordinal, second.ordinal, greatest-append (λ l. is_refuted l.verdict) xs ys);
+      above = λ ordinals known weight. weight-append weight (is_above ordinals) a b xs ys (first.above ordinals (omega (arith, second.ordinal)) weight) (second.above ordinals known weight);
       part = All-append (Contains (xs ++ ys)) a b
           (All-weaker (Contains xs) (Contains (xs ++ ys)) (λ x in'. Contains-append_left xs ys x in') a first.part)
           (All-weaker (Contains ys) (Contains (xs ++ ys)) (λ x in'. Contains-append_right xs ys x in') b second.part);
@@ -75,8 +75,8 @@ collects-cut c t w found is known =
     let below = leaves_under c t is in record {
       kept = [];
       behind = sym (append-nil found);
-      word = omega (arith, refuted_word-below t (leaves c t) below);
-      above = λ words h weight. ap (sum_by weight) (sym (none_above words t (leaves c t) below (omega arith)));
+      ordinal = omega (arith, refuted_ordinal-below t (leaves c t) below);
+      above = λ ordinals h weight. ap (sum_by weight) (sym (none_above ordinals t (leaves c t) below (omega arith)));
       part = All-nil (Contains (leaves c t));
     }
 
@@ -88,8 +88,8 @@ collects-leaf c t u w f g leaf low is behind =
     subst P (sym (leaves_of_leaf c t leaf)) (record {
       kept = leaf_of c t ∷ [];
       behind = behind;
-      word = is ∙ elim (is_refuted (c.verdict t)) as (λ b. cond b (t.cell.last + 1) u ≡ max u (max (cond b (t.cell.last + 1) 0) 0)) [ true ↦ omega arith | false ↦ omega arith ];
-      above = λ words h weight. refl;
+      ordinal = is ∙ elim (is_refuted (c.verdict t)) as (λ b. cond b (t.cell.last + 1) u ≡ max u (max (cond b (t.cell.last + 1) 0) 0)) [ true ↦ omega arith | false ↦ omega arith ];
+      above = λ ordinals h weight. refl;
       part = All-contains_itself (leaf_of c t ∷ []);
     })
 
@@ -124,8 +124,8 @@ collects-reordered part k u w xs ys f g same all =
     record {
       kept = all.kept;
       behind = all.behind;
-      word = omega (arith, all.word, greatest);
-      above = λ words known weight. all.above words known weight ∙ weight_reordered part weight (is_above words) xs ys same;
+      ordinal = omega (arith, all.ordinal, greatest);
+      above = λ ordinals known weight. all.above ordinals known weight ∙ weight_reordered part weight (is_above ordinals) xs ys same;
       part = contained_reordered part xs ys all.kept same all.part;
     }
 

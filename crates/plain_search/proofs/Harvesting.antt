@@ -7,33 +7,33 @@ use native.Mathlib.Decide.{ℕ_discrete}
 use Rattle.cell_split.specs.declared.verdict.Leaf.{Leaf}
 use Rattle.cell_split.specs.Judges.{Content}
 use Rattle.cell_split.specs.Tree.{root_task, leaves, all_leaves_to}
-use Rattle.cell_split.specs.Entries.{refuted_word}
-use Rattle.plain_search.specs.Harvests.{word_of, words_of, is_above, IsHarvest}
+use Rattle.cell_split.specs.Entries.{refuted_ordinal}
+use Rattle.plain_search.specs.Harvests.{ordinal_of, ordinals_of, is_above, IsHarvest}
 use Rattle.plain_search.specs.Collected.{Collects, Searched}
 use Rattle.plain_search.proofs.Collecting.{weight-append}
 
 pub searched-none : (c : Content) → Searched c 0 [] []
-searched-none c = record { counted = refl; refuted = λ k h. absurd (omega arith); above = λ words h weight. refl; part = All-nil (Contains []) }
+searched-none c = record { counted = refl; refuted = λ k h. absurd (omega arith); above = λ ordinals h weight. refl; part = All-nil (Contains []) }
 
 pub searched-more : (c : Content) (n : ℕ) (ranks : List (Option ℕ)) (rank : Option ℕ) (earlier found : List Leaf)
-    → Searched c n ranks earlier → Collects n (leaves c (root_task c n)) 0 (word_of rank) earlier found → Searched c (n + 1) (ranks ++ rank ∷ []) found
+    → Searched c n ranks earlier → Collects n (leaves c (root_task c n)) 0 (ordinal_of rank) earlier found → Searched c (n + 1) (ranks ++ rank ∷ []) found
 searched-more c n ranks rank earlier found before now =
     let all = all_leaves_to n c in
     let next = leaves c (root_task c n) in
     let kept = now.kept in
-    let old : (k : ℕ) → k < n → words_of (ranks ++ rank ∷ []) k ≡ words_of ranks k = λ k h. ap word_of (get_or_append_left ranks (rank ∷ []) None k (omega (arith, before.counted))) in
-    let new : words_of (ranks ++ rank ∷ []) n ≡ word_of rank = ap word_of (get_or_push ranks rank None n before.counted) in
+    let old : (k : ℕ) → k < n → ordinals_of (ranks ++ rank ∷ []) k ≡ ordinals_of ranks k = λ k h. ap ordinal_of (get_or_append_left ranks (rank ∷ []) None k (omega (arith, before.counted))) in
+    let new : ordinals_of (ranks ++ rank ∷ []) n ≡ ordinal_of rank = ap ordinal_of (get_or_push ranks rank None n before.counted) in
     let P : ℕ → Type 0 = λ m. Searched c m (ranks ++ rank ∷ []) found in
     let Q : List Leaf → Type 0 = λ l. Searched c (suc n) (ranks ++ rank ∷ []) l in
     subst P (sym (add-one n)) (subst Q (sym now.behind) (record {
       counted = omega (arith, length-append ranks (rank ∷ []), before.counted);
       refuted = λ k h. dite (ℕ_discrete k n)
-          (λ e. subst (λ (m : ℕ). words_of (ranks ++ rank ∷ []) m ≡ refuted_word (leaves c (root_task c m))) (sym e) (omega (arith, new, now.word)))
+          (λ e. subst (λ (m : ℕ). ordinals_of (ranks ++ rank ∷ []) m ≡ refuted_ordinal (leaves c (root_task c m))) (sym e) (omega (arith, new, now.ordinal)))
           (λ ne. old k (omega arith) ∙ before.refuted k (omega arith));
-      above = λ words h weight.
-          weight-append weight (is_above words) earlier kept all next
-          (before.above words (λ k lt. omega (arith, old k lt, h k (omega arith))) weight)
-          (now.above words (omega (arith, new, h n (omega arith))) weight);
+      above = λ ordinals h weight.
+          weight-append weight (is_above ordinals) earlier kept all next
+          (before.above ordinals (λ k lt. omega (arith, old k lt, h k (omega arith))) weight)
+          (now.above ordinals (omega (arith, new, h n (omega arith))) weight);
       part = All-append (Contains (all ++ next)) earlier kept
           (All-weaker (Contains all) (Contains (all ++ next)) (λ x in'. Contains-append_left all next x in') earlier before.part)
           (All-weaker (Contains next) (Contains (all ++ next)) (λ x in'. Contains-append_right all next x in') kept now.part);
@@ -43,6 +43,6 @@ pub harvested : (c : Content) (ranks : List (Option ℕ)) (found : List Leaf) �
 harvested c ranks found all = record {
   counted = all.counted;
   refuted = all.refuted;
-  above = λ weight. all.above (words_of ranks) (λ k h. omega arith) weight;
+  above = λ weight. all.above (ordinals_of ranks) (λ k h. omega arith) weight;
   others = all.part;
 }

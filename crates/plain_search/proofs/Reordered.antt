@@ -6,33 +6,33 @@ use Rattle.std.proofs.lemmas.List.Elements.{All-contains, All-from_recursion, Al
 use Rattle.std.proofs.lemmas.List.Sorted.{All-permutation, IsPermutation-sym, sum_by-IsPermutation}
 use Rattle.std.proofs.lemmas.List.Sums.{sum_by-append, sum_by-cons}
 use Rattle.cell_split.specs.declared.verdict.Leaf.{Leaf}
-use Rattle.cell_split.specs.Entries.{greatest_word}
+use Rattle.cell_split.specs.Entries.{greatest_ordinal}
 use Rattle.cell_split.proofs.Every.{Every, Every-contained, Every-flat_map, Every-weaker}
 use Rattle.plain_search.proofs.Greatest.{greatest-append}
 
 module _ {X : Type 0} (part : X → List Leaf) where
   -- a bound of all is one of each part
-  each_within : (test : Leaf → Bool) (n : ℕ) (xs : List X) → greatest_word test (flat_map part xs) ≤ n → Every (λ x. greatest_word test (part x) ≤ n) xs
+  each_within : (test : Leaf → Bool) (n : ℕ) (xs : List X) → greatest_ordinal test (flat_map part xs) ≤ n → Every (λ x. greatest_ordinal test (part x) ≤ n) xs
   each_within test n [] h = tt
   each_within test n (x ∷ xs) h =
       let both = greatest-append test (part x) (flat_map part xs) in
       (omega (arith, both, h), each_within test n xs (omega (arith, both, h)))
 
-  all_within : (test : Leaf → Bool) (n : ℕ) (xs : List X) → Every (λ x. greatest_word test (part x) ≤ n) xs → greatest_word test (flat_map part xs) ≤ n
+  all_within : (test : Leaf → Bool) (n : ℕ) (xs : List X) → Every (λ x. greatest_ordinal test (part x) ≤ n) xs → greatest_ordinal test (flat_map part xs) ≤ n
   all_within test n [] h = omega arith
   all_within test n (x ∷ xs) h =
       let both = greatest-append test (part x) (flat_map part xs) in
       let rest = all_within test n xs h.1 in
       omega (arith, both, rest, h.0)
 
-  at_most : (test : Leaf → Bool) (xs ys : List X) → IsPermutation xs ys → greatest_word test (flat_map part ys) ≤ greatest_word test (flat_map part xs)
+  at_most : (test : Leaf → Bool) (xs ys : List X) → IsPermutation xs ys → greatest_ordinal test (flat_map part ys) ≤ greatest_ordinal test (flat_map part xs)
   at_most test xs ys same =
-      let n = greatest_word test (flat_map part xs) in
-      let P : X → Type 0 = λ x. greatest_word test (part x) ≤ n in
+      let n = greatest_ordinal test (flat_map part xs) in
+      let P : X → Type 0 = λ x. greatest_ordinal test (part x) ≤ n in
       all_within test n ys (recursion_from_All P ys (All-permutation P xs ys same (All-from_recursion P xs (each_within test n xs (omega arith)))))
 
-  -- they have the same greatest word
-  pub greatest_reordered : (test : Leaf → Bool) (xs ys : List X) → IsPermutation xs ys → greatest_word test (flat_map part xs) ≡ greatest_word test (flat_map part ys)
+  -- they have the same greatest ordinal
+  pub greatest_reordered : (test : Leaf → Bool) (xs ys : List X) → IsPermutation xs ys → greatest_ordinal test (flat_map part xs) ≡ greatest_ordinal test (flat_map part ys)
   greatest_reordered test xs ys same =
       let there = at_most test xs ys same in
       let back = at_most test ys xs (IsPermutation-sym xs ys same) in

@@ -13,25 +13,25 @@ use Rattle.cell_split.specs.Verdicts.{is_split, is_open, is_refuted}
 use Rattle.cell_split.specs.Judges.{Content, IsTask}
 use Rattle.cell_split.specs.Split.{children_of}
 use Rattle.cell_split.specs.Tree.{child_tasks, task_of, leaves}
-use Rattle.cell_split.specs.Entries.{is_open_above, last_word, open_word, refuted_word}
+use Rattle.cell_split.specs.Entries.{is_open_above, last_ordinal, open_ordinal, refuted_ordinal}
 use Rattle.cell_split.proofs.Every.{Every}
 use Rattle.cell_split.proofs.TreeLemmas.{leaves_of_leaf, leaves_of_split}
 use Rattle.cell_split.proofs.LeafLemmas.{IsUnder, leaves_under}
 use Rattle.plain_search.specs.declared.quarters.Quarter.{Quarter}
 use Rattle.plain_search.specs.Quarters.{cells_of}
-use Rattle.plain_search.specs.TopRanks.{AreTopWords, Rises, above}
-use Rattle.plain_search.proofs.Collecting.{leaves_more, refuted_word-below}
+use Rattle.plain_search.specs.TopRanks.{AreTopOrdinals, Rises, above}
+use Rattle.plain_search.proofs.Collecting.{leaves_more, refuted_ordinal-below}
 use Rattle.plain_search.proofs.Greatest.{greatest-append}
 use Rattle.plain_search.proofs.Reordered.{greatest_reordered}
 
 -- no leaf below a task is open above a rank that is at least the task's last
-none_open : (word : ℕ) (t : Task) (xs : List Leaf) → Every (IsUnder t) xs → t.cell.last < word → open_word word xs ≡ 0
-none_open word t [] below known = refl
-none_open word t (x ∷ xs) below known =
+none_open : (ordinal : ℕ) (t : Task) (xs : List Leaf) → Every (IsUnder t) xs → t.cell.last < ordinal → open_ordinal ordinal xs ≡ 0
+none_open ordinal t [] below known = refl
+none_open ordinal t (x ∷ xs) below known =
     let last = below.0.inside.last in
-    let rest = none_open word t xs below.1 known in
-    let low : nat_lt word (last_word x) ≡ false = grind (arith, nat_tests) in
-    let out : is_open_above word x ≡ false = rw low (and_false (is_open x.verdict)) in
+    let rest = none_open ordinal t xs below.1 known in
+    let low : nat_lt ordinal (last_ordinal x) ≡ false = grind (arith, nat_tests) in
+    let out : is_open_above ordinal x ≡ false = rw low (and_false (is_open x.verdict)) in
     rw out (ap (max 0) rest)
   where
     and_false : (b : Bool) → (b && false) ≡ false
@@ -40,28 +40,28 @@ none_open word t (x ∷ xs) below known =
 
 -- nothing to take in
 pub rises-none : (r o : ℕ) → Rises [] r o r o
-rises-none r o = record { raised = omega arith; risen = λ word h. omega arith }
+rises-none r o = record { raised = omega arith; risen = λ ordinal h. omega arith }
 
 -- one part after another
 pub rises-more : (r o s p t q : ℕ) (xs ys : List Leaf) → Rises xs r o s p → Rises ys s p t q → Rises (xs ++ ys) r o t q
 rises-more r o s p t q xs ys first second = record {
   raised = omega (arith, first.raised, second.raised, greatest-append (λ l. is_refuted l.verdict) xs ys);
-  risen = λ word h.
-      let a = first.risen word (omega (arith, second.raised)) in
-      let b = second.risen word h in
-      omega (arith, a, b, greatest-append (is_open_above word) xs ys);
+  risen = λ ordinal h.
+      let a = first.risen ordinal (omega (arith, second.raised)) in
+      let b = second.risen ordinal h in
+      omega (arith, a, b, greatest-append (is_open_above ordinal) xs ys);
 }
 
 -- a task that is left out
 pub rises-cut : (c : Content) (t : Task) (r o : ℕ) → IsTask c t → t.cell.last < r → Rises (leaves c t) r o r o
 rises-cut c t r o is known =
     let below = leaves_under c t is in record {
-      raised = omega (arith, refuted_word-below t (leaves c t) below);
-      risen = λ word h. let none = none_open word t (leaves c t) below (omega arith) in omega (arith, none);
+      raised = omega (arith, refuted_ordinal-below t (leaves c t) below);
+      risen = λ ordinal h. let none = none_open ordinal t (leaves c t) below (omega arith) in omega (arith, none);
     }
 
-above_max : (word a b : ℕ) → above word (max a b) ≡ max (above word a) (max (above word b) 0)
-above_max word a b = grind (arith, nat_tests)
+above_max : (ordinal a b : ℕ) → above ordinal (max a b) ≡ max (above ordinal a) (max (above ordinal b) 0)
+above_max ordinal a b = grind (arith, nat_tests)
 
 -- a leaf that is taken in
 pub rises-leaf : (c : Content) (t : Task) (r o s p : ℕ) → is_split (c.verdict t) ≡ false → r ≤ t.cell.last
@@ -70,7 +70,7 @@ rises-leaf c t r o s p leaf low is opened =
     let P : List Leaf → Type 0 = λ all. Rises all r o s p in
     subst P (sym (leaves_of_leaf c t leaf)) (record {
       raised = is ∙ elim (is_refuted (c.verdict t)) as (λ b. cond b (t.cell.last + 1) r ≡ max r (max (cond b (t.cell.last + 1) 0) 0)) [ true ↦ omega arith | false ↦ omega arith ];
-      risen = λ word h. ap (above word) opened ∙ elim (is_open (c.verdict t)) as (λ b. above word (cond b (max o (t.cell.last + 1)) o) ≡ max (above word o) (max (cond (b && nat_lt word (t.cell.last + 1)) (t.cell.last + 1) 0) 0)) [ true ↦ above_max word o (t.cell.last + 1) | false ↦ omega arith ];
+      risen = λ ordinal h. ap (above ordinal) opened ∙ elim (is_open (c.verdict t)) as (λ b. above ordinal (cond b (max o (t.cell.last + 1)) o) ≡ max (above ordinal o) (max (cond (b && nat_lt ordinal (t.cell.last + 1)) (t.cell.last + 1) 0) 0)) [ true ↦ above_max ordinal o (t.cell.last + 1) | false ↦ omega arith ];
     })
 
 -- all children of a task that is split, for the task
@@ -96,7 +96,7 @@ rises-reordered part r o s p xs ys same all =
     let greatest = greatest_reordered part (λ l. is_refuted l.verdict) xs ys same in
     record {
       raised = omega (arith, all.raised, greatest);
-      risen = λ word h. let opens = greatest_reordered part (is_open_above word) xs ys same in omega (arith, all.risen word h, opens);
+      risen = λ ordinal h. let opens = greatest_reordered part (is_open_above ordinal) xs ys same in omega (arith, all.risen ordinal h, opens);
     }
 
 -- the next quarter
@@ -122,14 +122,14 @@ rises-quarters c t items i r o s p split same end all =
     subst Q (sym (leaves_of_split c t split)) (rises-reordered (leaves c) r o s p tasks (child_tasks t) order whole)
 
 -- all leaves of a problem
-pub top_words : (all : List Leaf) (r o : ℕ) → Rises all 0 0 r o → AreTopWords all r (above r o)
-top_words all r o h =
-    let same : r ≡ refuted_word all = omega (arith, h.raised) in
+pub top_ordinals : (all : List Leaf) (r o : ℕ) → Rises all 0 0 r o → AreTopOrdinals all r (above r o)
+top_ordinals all r o h =
+    let same : r ≡ refuted_ordinal all = omega (arith, h.raised) in
     record {
       greatest_refuted = same;
-      greatest_open = let up = h.risen r (omega arith) in let none : above r 0 ≡ 0 = no_word r in
-          let open' : above r o ≡ open_word r all = omega (arith, up, none) in open' ∙ ap (λ (w : ℕ). open_word w all) same;
+      greatest_open = let up = h.risen r (omega arith) in let none : above r 0 ≡ 0 = no_ordinal r in
+          let open' : above r o ≡ open_ordinal r all = omega (arith, up, none) in open' ∙ ap (λ (w : ℕ). open_ordinal w all) same;
     }
   where
-    no_word : (r : ℕ) → above r 0 ≡ 0
-    no_word r = elim (nat_lt r 0) as (λ b. ◌≡◌ {A = ℕ} (cond b 0 0) 0) [ true ↦ refl | false ↦ refl ]
+    no_ordinal : (r : ℕ) → above r 0 ≡ 0
+    no_ordinal r = elim (nat_lt r 0) as (λ b. ◌≡◌ {A = ℕ} (cond b 0 0) 0) [ true ↦ refl | false ↦ refl ]

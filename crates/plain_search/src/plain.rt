@@ -4,8 +4,8 @@ ghost use Rattle.cell_split.specs.Judges.{IsTask};
 ghost use Rattle.cell_split.specs.Split.{children_of, split};
 ghost use Rattle.cell_split.specs.Verdicts.{is_split, is_refuted};
 ghost use Rattle.cell_split.specs.Tree.{leaves};
-ghost use Rattle.cell_split.specs.Entries.{last_word};
-ghost use Rattle.plain_search.specs.Harvests.{word_of, IsHarvest};
+ghost use Rattle.cell_split.specs.Entries.{last_ordinal};
+ghost use Rattle.plain_search.specs.Harvests.{ordinal_of, IsHarvest};
 ghost use Rattle.plain_search.specs.Collected.{Collects};
 
 use crate::harvest::{Harvest, Leaves, Ranks};
@@ -43,7 +43,7 @@ fn visit<J: Judge>(
 ) -> Result<(), NoMemory>
     requires { IsTask (J.content judge.now) task }
     ensures { OnOk result (Collects task.problem (leaves (J.content judge.now) task)
-        (word_of refuted.old) (word_of refuted.new) found.old.items found.new.items) }
+        (ordinal_of refuted.old) (ordinal_of refuted.new) found.old.items found.new.items) }
 {
     if is_cut(&task.cell, *refuted) {
         return Ok(());
@@ -63,7 +63,7 @@ fn visit_judged<J: Judge>(
     requires task { IsTask (J.content judge.now) task }
     requires verdict { verdict ≡ (J.content judge.now).verdict task }
     ensures { OnOk result (Collects task.problem (leaves (J.content judge.now) task)
-        (word_of refuted.old) (word_of refuted.new) found.old.items found.new.items) }
+        (ordinal_of refuted.old) (ordinal_of refuted.new) found.old.items found.new.items) }
 {
     if is_cut(&task.cell, *refuted) {
         return Ok(());
@@ -98,7 +98,7 @@ fn visit_quarters<J: Judge>(
     requires split { is_split ((J.content judge.now).verdict task) ≡ true }
     requires quartered { (split task.cell).count ≡ 4 }
     ensures { OnOk result (Collects task.problem (leaves (J.content judge.now) task)
-        (word_of refuted.old) (word_of refuted.new) found.old.items found.new.items) }
+        (ordinal_of refuted.old) (ordinal_of refuted.new) found.old.items found.new.items) }
 {
     for quarter in &quarters_in_turn(judge, task) {
         let child = Task {
@@ -123,7 +123,7 @@ fn visit_halves<J: Judge>(
     requires split { is_split ((J.content judge.now).verdict task) ≡ true }
     requires halves { halves.now ≡ children_of task.cell }
     ensures { OnOk result (Collects task.problem (leaves (J.content judge.now) task)
-        (word_of refuted.old) (word_of refuted.new) found.old.items found.new.items) }
+        (ordinal_of refuted.old) (ordinal_of refuted.new) found.old.items found.new.items) }
 {
     for cell in halves {
         let child = Task {
@@ -137,7 +137,7 @@ fn visit_halves<J: Judge>(
 
 /// Whether the cell's last rank is at most the refuted rank: no leaf of it can be above that.
 pub fn is_cut(cell: &Cell, refuted: Option<u32>) -> bool
-    ensures { result ≡ nat_lt cell.now.last (word_of refuted) }
+    ensures { result ≡ nat_lt cell.now.last (ordinal_of refuted) }
 {
     match refuted {
         Some(rank) => cell.last <= rank,
@@ -148,7 +148,7 @@ pub fn is_cut(cell: &Cell, refuted: Option<u32>) -> bool
 // Keeps a leaf, which is above the refuted rank, and raises the rank where the leaf is refuted.
 fn keep(leaf: Leaf, refuted: &mut Option<u32>, found: &mut Vec<Leaf>) -> Result<(), NoMemory>
     ensures found { OnOk result (found.new.items ≡ found.old.items ++ leaf ∷ []) }
-    ensures refuted { word_of refuted.new ≡ (if is_refuted leaf.verdict then last_word leaf else word_of refuted.old) }
+    ensures refuted { ordinal_of refuted.new ≡ (if is_refuted leaf.verdict then last_ordinal leaf else ordinal_of refuted.old) }
 {
     if leaf.verdict.refutes() {
         *refuted = Some(leaf.task.cell.last);

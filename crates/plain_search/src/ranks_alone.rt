@@ -1,12 +1,12 @@
 // The search that keeps no leaf: for an entry the ranks are enough.
 ghost use Rattle.std.specs.Prelude.{◌≡◌, ◌<◌, true, max, if◌then◌else◌};
-ghost use Rattle.cell_split.specs.Entries.{last_word};
+ghost use Rattle.cell_split.specs.Entries.{last_ordinal};
 ghost use Rattle.cell_split.specs.Judges.{IsTask};
 ghost use Rattle.cell_split.specs.Split.{children_of, split};
 ghost use Rattle.cell_split.specs.Tree.{leaves, root_task};
 ghost use Rattle.cell_split.specs.Verdicts.{is_open, is_refuted, is_split};
-ghost use Rattle.plain_search.specs.Harvests.{word_of};
-ghost use Rattle.plain_search.specs.TopRanks.{AreTopWords, Rises, above};
+ghost use Rattle.plain_search.specs.Harvests.{ordinal_of};
+ghost use Rattle.plain_search.specs.TopRanks.{AreTopOrdinals, Rises, above};
 
 use crate::plain::is_cut;
 use crate::quarters::quarters_in_turn;
@@ -25,7 +25,7 @@ impl TopRanks {
     /// The refuted rank, and the open one if it is above that.
     pub fn of(refuted: Option<u32>, opened: Option<u32>) -> TopRanks
         ensures refuted { result.refuted ≡ refuted }
-        ensures left_open { word_of result.left_open ≡ above (word_of refuted) (word_of opened) }
+        ensures left_open { ordinal_of result.left_open ≡ above (ordinal_of refuted) (ordinal_of opened) }
     {
         let left_open = match (opened, refuted) {
             (Some(rank), Some(refuted)) if rank <= refuted => None,
@@ -40,7 +40,7 @@ impl TopRanks {
 /// takes no memory.
 pub fn top_ranks<J: Judge>(judge: &J, k: u32) -> TopRanks
     requires { k < (J.content judge.now).problems }
-    ensures { AreTopWords (leaves (J.content judge.now) (root_task (J.content judge.now) k)) (word_of result.refuted) (word_of result.left_open) }
+    ensures { AreTopOrdinals (leaves (J.content judge.now) (root_task (J.content judge.now) k)) (ordinal_of result.refuted) (ordinal_of result.left_open) }
 {
     let root = Task {
         problem: k,
@@ -59,7 +59,7 @@ pub fn top_ranks<J: Judge>(judge: &J, k: u32) -> TopRanks
 fn rise<J: Judge>(judge: &J, task: Task, found: &mut TopRanks)
     requires { IsTask (J.content judge.now) task }
     ensures { Rises (leaves (J.content judge.now) task)
-        (word_of found.old.refuted) (word_of found.old.left_open) (word_of found.new.refuted) (word_of found.new.left_open) }
+        (ordinal_of found.old.refuted) (ordinal_of found.old.left_open) (ordinal_of found.new.refuted) (ordinal_of found.new.left_open) }
 {
     if is_cut(&task.cell, found.refuted) {
         return;
@@ -73,7 +73,7 @@ fn rise_judged<J: Judge>(judge: &J, task: Task, verdict: Verdict, found: &mut To
     requires task { IsTask (J.content judge.now) task }
     requires verdict { verdict ≡ (J.content judge.now).verdict task }
     ensures { Rises (leaves (J.content judge.now) task)
-        (word_of found.old.refuted) (word_of found.old.left_open) (word_of found.new.refuted) (word_of found.new.left_open) }
+        (ordinal_of found.old.refuted) (ordinal_of found.old.left_open) (ordinal_of found.new.refuted) (ordinal_of found.new.left_open) }
 {
     if is_cut(&task.cell, found.refuted) {
         return;
@@ -96,7 +96,7 @@ fn rise_quarters<J: Judge>(judge: &J, task: Task, found: &mut TopRanks)
     requires split { is_split ((J.content judge.now).verdict task) ≡ true }
     requires quartered { (split task.cell).count ≡ 4 }
     ensures { Rises (leaves (J.content judge.now) task)
-        (word_of found.old.refuted) (word_of found.old.left_open) (word_of found.new.refuted) (word_of found.new.left_open) }
+        (ordinal_of found.old.refuted) (ordinal_of found.old.left_open) (ordinal_of found.new.refuted) (ordinal_of found.new.left_open) }
 {
     for quarter in &quarters_in_turn(judge, task) {
         let child = Task {
@@ -114,7 +114,7 @@ fn rise_halves<J: Judge>(judge: &J, task: Task, halves: &[Cell], found: &mut Top
     requires split { is_split ((J.content judge.now).verdict task) ≡ true }
     requires halves { halves.now ≡ children_of task.cell }
     ensures { Rises (leaves (J.content judge.now) task)
-        (word_of found.old.refuted) (word_of found.old.left_open) (word_of found.new.refuted) (word_of found.new.left_open) }
+        (ordinal_of found.old.refuted) (ordinal_of found.old.left_open) (ordinal_of found.new.refuted) (ordinal_of found.new.left_open) }
 {
     for cell in halves {
         let child = Task {
@@ -127,8 +127,8 @@ fn rise_halves<J: Judge>(judge: &J, task: Task, halves: &[Cell], found: &mut Top
 
 // Takes in a leaf that is above the refuted rank.
 fn take_in(leaf: Leaf, found: &mut TopRanks)
-    ensures refuted { word_of found.new.refuted ≡ (if is_refuted leaf.verdict then last_word leaf else word_of found.old.refuted) }
-    ensures opened { word_of found.new.left_open ≡ (if is_open leaf.verdict then max (word_of found.old.left_open) (last_word leaf) else word_of found.old.left_open) }
+    ensures refuted { ordinal_of found.new.refuted ≡ (if is_refuted leaf.verdict then last_ordinal leaf else ordinal_of found.old.refuted) }
+    ensures opened { ordinal_of found.new.left_open ≡ (if is_open leaf.verdict then max (ordinal_of found.old.left_open) (last_ordinal leaf) else ordinal_of found.old.left_open) }
 {
     let last = leaf.task.cell.last;
     match leaf.verdict {

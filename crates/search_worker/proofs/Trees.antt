@@ -11,7 +11,7 @@ use Rattle.cell_split.specs.declared.cell.Task.{Task}
 use Rattle.cell_split.specs.declared.verdict.Leaf.{Leaf}
 use Rattle.cell_split.specs.declared.verdict.Verdict.{Verdict}
 use Rattle.cell_split.specs.Cells.{IsCell}
-use Rattle.cell_split.specs.Entries.{greatest_word, last_word}
+use Rattle.cell_split.specs.Entries.{greatest_ordinal, last_ordinal}
 use Rattle.cell_split.specs.Judges.{Content, IsLawful, IsTask}
 use Rattle.cell_split.specs.Split.{children_of}
 use Rattle.cell_split.specs.Tree.{InTree, IsLeafOf, all_leaves, all_leaves_to, below, child_tasks, leaves, levels, root_task, task_of, top}
@@ -75,12 +75,12 @@ leaf_among c l is = among c.problems
         (λ e. Contains-append_right before own l (subst (λ (m : ℕ). Contains (leaves c (root_task c m)) l) e (tree_leaf c l is)))
         (λ ne. Contains-append_left before own l (among n (omega arith)))
 
--- a leaf that passes has at most the greatest word
-at_most_greatest : (test : Leaf → Bool) (ls : List Leaf) (l : Leaf) → test l ≡ true → Somewhere (λ m. m ≡ l) ls → last_word l ≤ greatest_word test ls
+-- a leaf that passes has at most the greatest ordinal
+at_most_greatest : (test : Leaf → Bool) (ls : List Leaf) (l : Leaf) → test l ≡ true → Somewhere (λ m. m ≡ l) ls → last_ordinal l ≤ greatest_ordinal test ls
 at_most_greatest test [] l passes h = absurd h
 at_most_greatest test (x ∷ xs) l passes (inl e) =
-    let word = ap last_word e in
-    rw (ap test e ∙ passes) (omega (arith, word))
+    let ordinal = ap last_ordinal e in
+    rw (ap test e ∙ passes) (omega (arith, ordinal))
 at_most_greatest test (x ∷ xs) l passes (inr h) =
     let rest = at_most_greatest test xs l passes h in
     omega (arith, rest)

@@ -1,8 +1,8 @@
 // The greatest open rank of each problem, and no leaf.
 ghost use Rattle.std.specs.Prelude.{◌≡◌, ◌≢◌, ◌<◌, ℕ, length, max, if◌then◌else◌};
-ghost use Rattle.cell_split.specs.Entries.{last_word};
+ghost use Rattle.cell_split.specs.Entries.{last_ordinal};
 ghost use Rattle.cell_split.specs.Verdicts.{is_open};
-ghost use Rattle.plain_search.specs.Harvests.{word_of, words_of};
+ghost use Rattle.plain_search.specs.Harvests.{ordinal_of, ordinals_of};
 ghost use Rattle.search_worker.specs.OpenRanks.{AreOpenRanks};
 
 use crate::store::Store;
@@ -42,8 +42,8 @@ impl OpenRanks {
     // Takes in a rank of a problem, where there is such a problem.
     fn raise(&mut self, problem: usize, rank: Option<u32>)
         ensures counted { length self.new.ranks.items ≡ length self.old.ranks.items }
-        ensures here { problem < length self.old.ranks.items → words_of self.new.ranks.items problem ≡ max (words_of self.old.ranks.items problem) (word_of rank) }
-        ensures others { (k : ℕ) → k ≢ problem → words_of self.new.ranks.items k ≡ words_of self.old.ranks.items k }
+        ensures here { problem < length self.old.ranks.items → ordinals_of self.new.ranks.items problem ≡ max (ordinals_of self.old.ranks.items problem) (ordinal_of rank) }
+        ensures others { (k : ℕ) → k ≢ problem → ordinals_of self.new.ranks.items k ≡ ordinals_of self.old.ranks.items k }
     {
         if problem < self.ranks.len() {
             self.ranks[problem] = greater(self.ranks[problem], rank);
@@ -53,7 +53,7 @@ impl OpenRanks {
 
 // The last rank of a leaf, if it is open.
 fn open_rank(leaf: &Leaf) -> Option<u32>
-    ensures { word_of result ≡ (if is_open leaf.now.verdict then last_word leaf.now else 0) }
+    ensures { ordinal_of result ≡ (if is_open leaf.now.verdict then last_ordinal leaf.now else 0) }
 {
     match leaf.verdict {
         Verdict::Open(_) => Some(leaf.task.cell.last),
@@ -63,7 +63,7 @@ fn open_rank(leaf: &Leaf) -> Option<u32>
 
 // The greater rank, where None is below all.
 fn greater(a: Option<u32>, b: Option<u32>) -> Option<u32>
-    ensures { word_of result ≡ max (word_of a) (word_of b) }
+    ensures { ordinal_of result ≡ max (ordinal_of a) (ordinal_of b) }
 {
     match (a, b) {
         (Some(first), Some(second)) => Some(first.max(second)),

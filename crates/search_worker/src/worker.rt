@@ -1,7 +1,7 @@
 // What one worker has, and its small steps.
 ghost use Rattle.std.specs.Prelude.{◌≡◌, ◌<◌, ◌≤◌, ℕ, true, OnOk};
 ghost use Rattle.bound_word.specs.Bounds.{count_of, seen, IsSeatOf};
-ghost use Rattle.cell_split.specs.Entries.{last_word};
+ghost use Rattle.cell_split.specs.Entries.{last_ordinal};
 ghost use Rattle.cell_split.specs.Judges.{IsTask};
 ghost use Rattle.cell_split.specs.Tree.{IsLeafOf};
 ghost use Rattle.cell_split.specs.Verdicts.{is_refuted};
@@ -77,7 +77,7 @@ fn tell<C: Case>(bound: &Bound<Refutes<C>>, seat: &mut BoundSeat<Refutes<C>>, le
     requires leaf { IsLeafOf C.case leaf.now }
     ensures seat { IsSeatOf bound.now seat.new }
     ensures risen { (k : ℕ) → seen seat.old k ≤ seen seat.new k }
-    ensures told { is_refuted leaf.now.verdict ≡ true → last_word leaf.now ≤ seen seat.new leaf.now.task.problem }
+    ensures told { is_refuted leaf.now.verdict ≡ true → last_ordinal leaf.now ≤ seen seat.new leaf.now.task.problem }
 {
     if leaf.verdict.refutes() {
         bound.raise(seat, leaf.task.problem, leaf.task.cell.last);

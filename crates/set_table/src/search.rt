@@ -5,7 +5,7 @@ ghost use Rattle.district_set.specs.Sets.{AreAlike, judge_at, set_content};
 ghost use Rattle.order_table.specs.Trees.{entry_at};
 ghost use Rattle.set_table.specs.Made.{HaveOneRoot, entries_on_days};
 ghost use Rattle.set_table.specs.Searches.{IsFound, entries_by, judge_of, judge_over, judges_over};
-ghost use Rattle.steal_pool.specs.Found.{AreAllTopWords};
+ghost use Rattle.steal_pool.specs.Found.{AreAllTopOrdinals};
 
 use cell_judge::Sky;
 use cell_split::{Entry, Judge};
@@ -23,7 +23,7 @@ use steal_pool::{Gate, search_ranks};
 
 /// The entry of a problem of judge `i`, from the ranks that a search for all found.
 fn entry_in<J: Judge>(set: &SetSky<J>, ranks: &[TopRanks], i: u32, column: u32) -> Entry
-    requires ranks { AreAllTopWords (set_content (map J.content set.now.skies.now)) ranks.now }
+    requires ranks { AreAllTopOrdinals (set_content (map J.content set.now.skies.now)) ranks.now }
     requires within { i < length set.now.skies.now }
     requires column { column < 7 }
     ensures value { result ≡ entry_at (judge_at (map J.content set.now.skies.now) i) column }
@@ -35,7 +35,7 @@ fn entry_in<J: Judge>(set: &SetSky<J>, ranks: &[TopRanks], i: u32, column: u32) 
 
 /// The entries of judge `i`.
 fn entries_in<J: Judge>(set: &SetSky<J>, ranks: &[TopRanks], i: u32) -> [Entry; 7]
-    requires ranks { AreAllTopWords (set_content (map J.content set.now.skies.now)) ranks.now }
+    requires ranks { AreAllTopOrdinals (set_content (map J.content set.now.skies.now)) ranks.now }
     requires within { i < length set.now.skies.now }
     ensures value { result ≡ entries_by (judge_at (map J.content set.now.skies.now) i) }
     ensures found { All IsFound result }
@@ -58,7 +58,7 @@ fn entries_of_judges<J: Judge>(
     ranks: &[TopRanks],
     count: u32,
 ) -> Result<Vec<[Entry; 7]>, NoMemory>
-    requires ranks { AreAllTopWords (set_content (map J.content set.now.skies.now)) ranks.now }
+    requires ranks { AreAllTopOrdinals (set_content (map J.content set.now.skies.now)) ranks.now }
     requires count { count ≡ length set.now.skies.now }
     ensures entries { IfOk result (λ found. found.items ≡ map entries_by (map J.content set.now.skies.now)) }
     ensures found { IfOk result (λ found. All (All IsFound) found.items) }

@@ -44,7 +44,7 @@ module _ (c : Content) where
   owes-none keeps seen held = record {
     kept = [];
     held = held;
-    balance = λ words h weight. refl;
+    balance = λ ordinals h weight. refl;
     told = All-nil (IsTold seen);
     part = All-nil (Contains (all_leaves c));
   }
@@ -55,9 +55,9 @@ module _ (c : Content) where
   owes-as keeps seen logs others given more same all owes = record {
     kept = owes.kept;
     held = owes.held;
-    balance = λ words h weight.
-        let w = below c words weight in
-        omega (arith, owes.balance words h weight, same.pushed w, same.taken w, all w);
+    balance = λ ordinals h weight.
+        let w = below c ordinals weight in
+        omega (arith, owes.balance ordinals h weight, same.pushed w, same.taken w, all w);
     told = owes.told;
     part = owes.part;
   }
@@ -69,8 +69,8 @@ module _ (c : Content) where
       let same = blank_logs thieves blank in record {
         kept = [];
         held = held;
-        balance = λ words h weight.
-            let w = below c words weight in
+        balance = λ ordinals h weight.
+            let w = below c ordinals weight in
             let none : sum_by w v.taken ≡ 0 = ap (λ (l : List Job). sum_by w l) untouched in
             omega (arith, none, same.pushed w, same.taken w, pushed-cons w v (logs_of thieves), taken-cons w v (logs_of thieves));
         told = All-nil (IsTold seen);
@@ -85,12 +85,12 @@ module _ (c : Content) where
       let b = second.kept in record {
         kept = a ++ b;
         held = held a b first.held second.held;
-        balance = λ words h weight.
-            let x = below c words weight in
-            let test = is_above words in
+        balance = λ ordinals h weight.
+            let x = below c ordinals weight in
+            let test = is_above ordinals in
             let both = ap (sum_by weight) (filter-append test a b) ∙ sum_by-append weight (filter test a) (filter test b) in
-            let left = first.balance words (λ k lt. omega (arith, seen k, h k lt)) weight in
-            let right = second.balance words (λ k lt. omega (arith, seen k, h k lt)) weight in
+            let left = first.balance ordinals (λ k lt. omega (arith, seen k, h k lt)) weight in
+            let right = second.balance ordinals (λ k lt. omega (arith, seen k, h k lt)) weight in
             omega (arith, both, left, right, pushed-append x v w, taken-append x v w, sum_by-append x f g);
         told = All-append (IsTold u) a b
             (All-weaker (IsTold s) (IsTold u) (λ l h. record { told = λ e. let k = h.told e in omega (arith, k, seen l.task.problem) }) a first.told)
@@ -103,9 +103,9 @@ module _ (c : Content) where
   owes-settled keeps seen v logs given settled owes = record {
     kept = owes.kept;
     held = owes.held;
-    balance = λ words h weight.
-        let w = below c words weight in
-        omega (arith, owes.balance words h weight, settled w, pushed-cons w v logs, taken-cons w v logs);
+    balance = λ ordinals h weight.
+        let w = below c ordinals weight in
+        omega (arith, owes.balance ordinals h weight, settled w, pushed-cons w v logs, taken-cons w v logs);
     told = owes.told;
     part = owes.part;
   }

@@ -2,7 +2,7 @@
 ghost use Rattle.std.specs.Prelude.{◌≤◌, IfOk};
 ghost use Rattle.plain_search.specs.Harvests.{IsHarvest};
 ghost use Rattle.search_worker.specs.OpenRanks.{AreOpenRanks};
-ghost use Rattle.steal_pool.specs.Found.{AreAllTopWords, IsFound};
+ghost use Rattle.steal_pool.specs.Found.{AreAllTopOrdinals, IsFound};
 
 use crate::gate::{Gate, Gated};
 use crate::stealing::{Found, search_in};
@@ -49,7 +49,7 @@ pub fn search_ranks<R: Threads + Wait + Sync, J: Judge + Sync, G: Gate + Sync>(
 ) -> Result<Vec<TopRanks>, NoMemory>
     requires some { 1 ≤ workers }
     requires few { workers ≤ 16 }
-    ensures { IfOk result (λ found. AreAllTopWords (J.content judge.now) found.items) }
+    ensures { IfOk result (λ found. AreAllTopOrdinals (J.content judge.now) found.items) }
 {
     if workers == 1 || judge.problems() == 0 {
         return ranks_in_turn(alloc, &Gated::new(judge, gate, 0));
@@ -60,7 +60,7 @@ pub fn search_ranks<R: Threads + Wait + Sync, J: Judge + Sync, G: Gate + Sync>(
 
 // The ranks of one problem after another, on this thread.
 fn ranks_in_turn<J: Judge>(alloc: Global, judge: &J) -> Result<Vec<TopRanks>, NoMemory>
-    ensures { IfOk result (λ found. AreAllTopWords (J.content judge.now) found.items) }
+    ensures { IfOk result (λ found. AreAllTopOrdinals (J.content judge.now) found.items) }
 {
     let mut found = Vec::new(alloc);
     for problem in 0..judge.problems() {
@@ -76,7 +76,7 @@ fn top_ranks_of<J: Judge>(
     found: &Found<OpenRanks>,
 ) -> Result<Vec<TopRanks>, NoMemory>
     requires { IsFound (J.content judge.now) (AreOpenRanks (J.content judge.now).problems found.now.store.ranks.items) found.now.ranks.items }
-    ensures { IfOk result (λ tops. AreAllTopWords (J.content judge.now) tops.items) }
+    ensures { IfOk result (λ tops. AreAllTopOrdinals (J.content judge.now) tops.items) }
 {
     let mut tops = Vec::new(alloc);
     for problem in 0..judge.problems() {

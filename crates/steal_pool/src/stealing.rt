@@ -1,7 +1,7 @@
 // The search by several workers, each with a deque of its own, who steal from each other.
 ghost use Rattle.std.specs.Prelude.{◌≡◌, ◌<◌, ◌≤◌, [], false, All, IfOk, length};
 ghost use Rattle.bound_word.specs.Bounds.{IsSeatOf, count_of, seen};
-ghost use Rattle.plain_search.specs.Harvests.{words_of};
+ghost use Rattle.plain_search.specs.Harvests.{ordinals_of};
 ghost use Rattle.search_worker.specs.Owing.{AreSeen};
 ghost use Rattle.steal_pool.specs.Crews.{IsCrew, OweRoots, roots_to};
 ghost use Rattle.steal_pool.specs.Endings.{JoinedOwes};
@@ -103,8 +103,8 @@ fn refuted_ranks<C: Case>(
     requires problems { problems ≡ C.case.problems }
     requires seat { IsSeatOf bound.now seat.old }
     ensures counted { IfOk result (λ ranks. length ranks.items ≡ C.case.problems) }
-    ensures seen { IfOk result (λ ranks. AreSeen C.case (seen seat.old) (words_of ranks.items)) }
-    ensures facts { IfOk result (λ ranks. AreFacts C.case (words_of ranks.items)) }
+    ensures seen { IfOk result (λ ranks. AreSeen C.case (seen seat.old) (ordinals_of ranks.items)) }
+    ensures facts { IfOk result (λ ranks. AreFacts C.case (ordinals_of ranks.items)) }
 {
     let mut ranks = Vec::new(alloc);
     for problem in 0..problems {

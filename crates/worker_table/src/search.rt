@@ -5,7 +5,7 @@ ghost use Rattle.days_sky.specs.Days.{days_content, rows_of_day};
 ghost use Rattle.order_table.specs.Made.{rows_of};
 ghost use Rattle.order_table.specs.Printing.{IsPrintable};
 ghost use Rattle.order_table.specs.Trees.{entry_at};
-ghost use Rattle.steal_pool.specs.Found.{AreAllTopWords};
+ghost use Rattle.steal_pool.specs.Found.{AreAllTopOrdinals};
 ghost use Rattle.worker_table.specs.Entries.{entries_on};
 
 use cell_judge::Sky;
@@ -22,7 +22,7 @@ use steal_pool::{Gate, search_ranks};
 
 /// The entry of a column on day `i`, from the ranks that a search for all days found.
 fn entry_in(sky: &DaysSky, ranks: &[TopRanks], i: u32, day: &Day, column: u32) -> Entry
-    requires ranks { AreAllTopWords (days_content sky.now.sky.now.sun sky.now.sky.now.district (map rows_of_day sky.now.days.now) sky.now.sky.now.root) ranks.now }
+    requires ranks { AreAllTopOrdinals (days_content sky.now.sky.now.sun sky.now.sky.now.district (map rows_of_day sky.now.days.now) sky.now.sky.now.root) ranks.now }
     requires within { i < length sky.now.days.now }
     requires own { slice_index_or (map rows_of_day sky.now.days.now) i (rows_of day.now) ≡ rows_of day.now }
     requires column { column < 7 }
@@ -36,7 +36,7 @@ fn entry_in(sky: &DaysSky, ranks: &[TopRanks], i: u32, day: &Day, column: u32) -
 /// The entries of day `i`.
 #[tactic(auto, unfolding(order_table::specs::Trees::entries_of))]
 fn entries_in(sky: &DaysSky, ranks: &[TopRanks], i: u32, day: &Day) -> [Entry; 7]
-    requires ranks { AreAllTopWords (days_content sky.now.sky.now.sun sky.now.sky.now.district (map rows_of_day sky.now.days.now) sky.now.sky.now.root) ranks.now }
+    requires ranks { AreAllTopOrdinals (days_content sky.now.sky.now.sun sky.now.sky.now.district (map rows_of_day sky.now.days.now) sky.now.sky.now.root) ranks.now }
     requires within { i < length sky.now.days.now }
     requires own { slice_index_or (map rows_of_day sky.now.days.now) i (rows_of day.now) ≡ rows_of day.now }
     ensures value { result ≡ entries_on sky.now.sky.now.sun sky.now.sky.now.district sky.now.sky.now.root day.now }
@@ -60,7 +60,7 @@ fn entries_of_days(
     ranks: &[TopRanks],
     days: &[Day],
 ) -> Result<Vec<[Entry; 7]>, NoMemory>
-    requires ranks { AreAllTopWords (days_content sky.now.sky.now.sun sky.now.sky.now.district (map rows_of_day sky.now.days.now) sky.now.sky.now.root) ranks.now }
+    requires ranks { AreAllTopOrdinals (days_content sky.now.sky.now.sun sky.now.sky.now.district (map rows_of_day sky.now.days.now) sky.now.sky.now.root) ranks.now }
     requires own { map rows_of_day sky.now.days.now ≡ map rows_of days.now }
     requires short { length days.now < 2 ^ 32 }
     ensures entries { IfOk result (λ found. found.items ≡ map (entries_on sky.now.sky.now.sun sky.now.sky.now.district sky.now.sky.now.root) days.now) }

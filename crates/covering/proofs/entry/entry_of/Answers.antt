@@ -5,6 +5,6 @@ pub entry_of_ranks-requires-clause-ranks : goal.entry_of_ranks-requires-clause-r
 entry_of_ranks-requires-clause-ranks g c =
     let lawful = g.met.J.Judge.lawful c.args.judge.now in
     record {
-      greatest_refuted = (harvested_rank _ c.args.k _ _ _ lawful c.requires.known c.requires.harvest c.refuted_rank-refuted.ensures).word;
+      greatest_refuted = (harvested_rank _ c.args.k _ _ _ lawful c.requires.known c.requires.harvest c.refuted_rank-refuted.ensures).ordinal;
       greatest_open = harvested_open_rank _ c.args.k _ _ _ _ lawful c.requires.known c.requires.harvest c.refuted_rank-refuted.ensures c.open_rank-left_open.ensures;
     }

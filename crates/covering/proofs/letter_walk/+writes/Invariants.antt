@@ -1,7 +1,7 @@
 use Rattle.std.proofs.Common.{◌≡◌, ◌-◌, ◌*◌}
 use Rattle.cell_split.specs.Split.{children_of}
 use Rattle.cell_split.specs.Tree.{levels}
-use Rattle.plain_search.specs.Harvests.{word_of}
+use Rattle.plain_search.specs.Harvests.{ordinal_of}
 use Rattle.covering.proofs.Spelling.{AreWritten}
 use Rattle.covering.proofs.letter_walk.+writes.Given as goal
 
@@ -15,5 +15,5 @@ decreases-write_letters_below g l = 2 * levels l.task.cell - 1
 abbrev pub invariant-write_letters_below-loop-cell : goal.invariant-write_letters_below-loop-cell
 invariant-write_letters_below-loop-cell g l = record {
   children : l.cell-items ≡ children_of l.task.cell;
-  written : AreWritten (g.J.Judge.content l.judge) (word_of l.refuted) l.task l.cell-items l.cell-index l.initial.letters.items l.letters.items;
+  written : AreWritten (g.J.Judge.content l.judge) (ordinal_of l.refuted) l.task l.cell-items l.cell-index l.initial.letters.items l.letters.items;
 }

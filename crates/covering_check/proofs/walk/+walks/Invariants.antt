@@ -2,7 +2,7 @@ use Rattle.std.proofs.Common.{◌≡◌, ◌-◌, ◌*◌, length}
 use Rattle.std.specs.Prelude.{All}
 use Rattle.cell_split.specs.Split.{children_of}
 use Rattle.cell_split.specs.Tree.{levels}
-use Rattle.plain_search.specs.Harvests.{word_of}
+use Rattle.plain_search.specs.Harvests.{ordinal_of}
 use Rattle.plain_search.specs.Quarters.{IsJudged, cells_of}
 use Rattle.covering_check.specs.Left.{left}
 use Rattle.covering_check.specs.Visits.{IsInFrame}
@@ -27,13 +27,13 @@ invariant-walk_quarters-loop-quarter g l = record {
   four : length l.quarter-items ≡ 4;
   cells : cells_of l.quarter-items ≡ children_of l.task.cell;
   verdicts : All (IsJudged (g.J.Judge.content l.judge) l.task.problem) l.quarter-items;
-  walked : AreWalked (g.J.Judge.content l.judge) (word_of l.refuted) l.task (cells_of l.quarter-items) l.quarter-index l.fn.known l.found (left l.initial.letters) (left l.letters);
+  walked : AreWalked (g.J.Judge.content l.judge) (ordinal_of l.refuted) l.task (cells_of l.quarter-items) l.quarter-index l.fn.known l.found (left l.initial.letters) (left l.letters);
   in_frame : IsInFrame l.found;
 }
 
 -- the cells below the halves before this one have taken their letters
 abbrev pub invariant-walk_halves-loop-cell : goal.invariant-walk_halves-loop-cell
 invariant-walk_halves-loop-cell g l = record {
-  walked : AreWalked (g.J.Judge.content l.judge) (word_of l.refuted) l.task l.halves l.cell-index l.fn.known l.found (left l.initial.letters) (left l.letters);
+  walked : AreWalked (g.J.Judge.content l.judge) (ordinal_of l.refuted) l.task l.halves l.cell-index l.fn.known l.found (left l.initial.letters) (left l.letters);
   in_frame : IsInFrame l.found;
 }

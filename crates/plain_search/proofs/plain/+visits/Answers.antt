@@ -1,26 +1,26 @@
 use Rattle.std.proofs.Common.{◌≡◌, ◌<◌, ◌≤◌, false, rules, sym, ap, ◌∙◌, arith}
 use Rattle.std.proofs.lemmas.Result.{on_ok_weaker}
 use Rattle.cell_split.specs.Verdicts.{is_split}
-use Rattle.plain_search.specs.Harvests.{word_of}
+use Rattle.plain_search.specs.Harvests.{ordinal_of}
 use Rattle.plain_search.proofs.Collecting.{collects-child, collects-leaf, collects-quarter, collects-quarters, collects-cut, collects-split}
 use Rattle.plain_search.proofs.TreeFacts.{child_at, quarter_at}
 use Rattle.plain_search.proofs.plain.+visits.Goals as goal
 
 pub visit-returns-then-is_cut : goal.visit-returns-then-is_cut
 visit-returns-then-is_cut g t c =
-    let low : c.args.task.cell.last < word_of c.args.refuted.now = search rules in
+    let low : c.args.task.cell.last < ordinal_of c.args.refuted.now = search rules in
     collects-cut (g.J.Judge.content c.args.judge.now) c.args.task _ _ c.requires low
 
 pub visit_judged-returns-then-is_cut : goal.visit_judged-returns-then-is_cut
 visit_judged-returns-then-is_cut g t c =
-    let low : c.args.task.cell.last < word_of c.args.refuted.now = search rules in
+    let low : c.args.task.cell.last < ordinal_of c.args.refuted.now = search rules in
     collects-cut (g.J.Judge.content c.args.judge.now) c.args.task _ _ c.requires.task low
 
 pub visit_judged-returns-then-not-splits : goal.visit_judged-returns-then-not-splits
 visit_judged-returns-then-not-splits g t c =
     let content = g.J.Judge.content c.args.judge.now in
     let same = c.requires.verdict in
-    let low : word_of c.args.refuted.now ≤ c.args.task.cell.last = search rules in
+    let low : ordinal_of c.args.refuted.now ≤ c.args.task.cell.last = search rules in
     let leaf : is_split (content.verdict c.args.task) ≡ false = ap is_split (sym same) ∙ (sym c.splits.ensures ∙ c.if-not-splits.true) in
     on_ok_weaker c.keep.result (λ e. collects-leaf content c.args.task _ _ _ _ leaf low (rw (sym same) c.keep.ensures.refuted) (rw (sym same) e)) c.keep.ensures.found
 

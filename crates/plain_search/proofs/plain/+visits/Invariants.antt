@@ -5,7 +5,7 @@ use Rattle.std.specs.Prelude.{All}
 use Rattle.cell_split.specs.Split.{children_of}
 use Rattle.cell_split.specs.Tree.{leaves, levels, task_of}
 use Rattle.plain_search.specs.Collected.{Collects}
-use Rattle.plain_search.specs.Harvests.{word_of}
+use Rattle.plain_search.specs.Harvests.{ordinal_of}
 use Rattle.plain_search.specs.Quarters.{IsJudged, cells_of}
 use Rattle.plain_search.proofs.plain.+visits.Given as goal
 
@@ -28,12 +28,12 @@ invariant-visit_quarters-loop-quarter g l = record {
   cells : IsPermutation (children_of l.task.cell) (cells_of l.quarter-items);
   verdicts : All (IsJudged (g.J.Judge.content l.judge) l.task.problem) l.quarter-items;
   searched : Collects l.task.problem (flat_map (leaves (g.J.Judge.content l.judge)) (map (task_of l.task.problem) (take l.quarter-index (cells_of l.quarter-items))))
-      (word_of l.initial.refuted) (word_of l.refuted) l.initial.found.items l.found.items;
+      (ordinal_of l.initial.refuted) (ordinal_of l.refuted) l.initial.found.items l.found.items;
 }
 
 -- the halves before this one are searched
 abbrev pub invariant-visit_halves-loop-cell : goal.invariant-visit_halves-loop-cell
 invariant-visit_halves-loop-cell g l = record {
   searched : Collects l.task.problem (flat_map (leaves (g.J.Judge.content l.judge)) (map (task_of l.task.problem) (take l.cell-index l.halves)))
-      (word_of l.initial.refuted) (word_of l.refuted) l.initial.found.items l.found.items;
+      (ordinal_of l.initial.refuted) (ordinal_of l.refuted) l.initial.found.items l.found.items;
 }

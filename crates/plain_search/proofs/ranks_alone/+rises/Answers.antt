@@ -1,27 +1,27 @@
 use Rattle.std.proofs.Common.{◌≡◌, ◌<◌, ◌≤◌, false, rules, sym, ap, ◌∙◌, arith}
 use Rattle.cell_split.specs.Verdicts.{is_split}
-use Rattle.plain_search.specs.Harvests.{word_of}
+use Rattle.plain_search.specs.Harvests.{ordinal_of}
 use Rattle.plain_search.proofs.Rising.{rises-child, rises-leaf, rises-quarter, rises-quarters, rises-cut, rises-split}
 use Rattle.plain_search.proofs.TreeFacts.{child_at, quarter_at}
 use Rattle.plain_search.proofs.ranks_alone.+rises.Goals as goal
 
 pub rise-returns-then-is_cut : goal.rise-returns-then-is_cut
 rise-returns-then-is_cut g t c =
-    let low : c.args.task.cell.last < word_of c.args.found.now.refuted = search rules in
+    let low : c.args.task.cell.last < ordinal_of c.args.found.now.refuted = search rules in
     rises-cut (g.J.Judge.content c.args.judge.now) c.args.task _ _ c.requires low
 
 pub rise_judged-returns-then-is_cut : goal.rise_judged-returns-then-is_cut
 rise_judged-returns-then-is_cut g t c =
-    let low : c.args.task.cell.last < word_of c.args.found.now.refuted = search rules in
+    let low : c.args.task.cell.last < ordinal_of c.args.found.now.refuted = search rules in
     rises-cut (g.J.Judge.content c.args.judge.now) c.args.task _ _ c.requires.task low
 
 pub rise_judged-returns-then-not-splits : goal.rise_judged-returns-then-not-splits
 rise_judged-returns-then-not-splits g t c =
     let content = g.J.Judge.content c.args.judge.now in
     let same = c.requires.verdict in
-    let low : word_of c.args.found.now.refuted ≤ c.args.task.cell.last = search rules in
+    let low : ordinal_of c.args.found.now.refuted ≤ c.args.task.cell.last = search rules in
     let leaf : is_split (content.verdict c.args.task) ≡ false = ap is_split (sym same) ∙ (sym c.splits.ensures ∙ c.if-not-splits.true) in
-    rises-leaf content c.args.task (word_of c.args.found.now.refuted) (word_of c.args.found.now.left_open) (word_of c.take_in.new.found.refuted) (word_of c.take_in.new.found.left_open) leaf low (rw (sym same) c.take_in.ensures.refuted) (rw (sym same) c.take_in.ensures.opened)
+    rises-leaf content c.args.task (ordinal_of c.args.found.now.refuted) (ordinal_of c.args.found.now.left_open) (ordinal_of c.take_in.new.found.refuted) (ordinal_of c.take_in.new.found.left_open) leaf low (rw (sym same) c.take_in.ensures.refuted) (rw (sym same) c.take_in.ensures.opened)
 
 pub rise_quarters-rise_judged-requires : goal.rise_quarters-rise_judged-requires
 rise_quarters-rise_judged-requires g t c κs within =

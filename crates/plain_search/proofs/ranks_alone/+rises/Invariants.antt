@@ -4,7 +4,7 @@ use Rattle.std.specs.List.Sorted.{IsPermutation}
 use Rattle.std.specs.Prelude.{All}
 use Rattle.cell_split.specs.Split.{children_of}
 use Rattle.cell_split.specs.Tree.{leaves, levels, task_of}
-use Rattle.plain_search.specs.Harvests.{word_of}
+use Rattle.plain_search.specs.Harvests.{ordinal_of}
 use Rattle.plain_search.specs.Quarters.{IsJudged, cells_of}
 use Rattle.plain_search.specs.TopRanks.{Rises}
 use Rattle.plain_search.proofs.ranks_alone.+rises.Given as goal
@@ -28,12 +28,12 @@ invariant-rise_quarters-loop-quarter g l = record {
   cells : IsPermutation (children_of l.task.cell) (cells_of l.quarter-items);
   verdicts : All (IsJudged (g.J.Judge.content l.judge) l.task.problem) l.quarter-items;
   taken : Rises (flat_map (leaves (g.J.Judge.content l.judge)) (map (task_of l.task.problem) (take l.quarter-index (cells_of l.quarter-items))))
-      (word_of l.initial.found.refuted) (word_of l.initial.found.left_open) (word_of l.found.refuted) (word_of l.found.left_open);
+      (ordinal_of l.initial.found.refuted) (ordinal_of l.initial.found.left_open) (ordinal_of l.found.refuted) (ordinal_of l.found.left_open);
 }
 
 -- the halves before this one are taken in
 abbrev pub invariant-rise_halves-loop-cell : goal.invariant-rise_halves-loop-cell
 invariant-rise_halves-loop-cell g l = record {
   taken : Rises (flat_map (leaves (g.J.Judge.content l.judge)) (map (task_of l.task.problem) (take l.cell-index l.halves)))
-      (word_of l.initial.found.refuted) (word_of l.initial.found.left_open) (word_of l.found.refuted) (word_of l.found.left_open);
+      (ordinal_of l.initial.found.refuted) (ordinal_of l.initial.found.left_open) (ordinal_of l.found.refuted) (ordinal_of l.found.left_open);
 }

@@ -1,7 +1,7 @@
 use Rattle.cell_split.proofs.LeafLemmas.{root_is_task}
 use Rattle.cell_split.specs.Tree.{leaves, root_task}
-use Rattle.plain_search.specs.Harvests.{word_of}
-use Rattle.plain_search.proofs.Rising.{top_words}
+use Rattle.plain_search.specs.Harvests.{ordinal_of}
+use Rattle.plain_search.proofs.Rising.{top_ordinals}
 use Rattle.plain_search.proofs.ranks_alone.top_ranks.Goals as goal
 
 pub rise-requires : goal.rise-requires
@@ -13,4 +13,4 @@ pub returns : goal.returns
 returns g c =
     let content = g.J.Judge.content c.args.judge.now in
     let all = leaves content (root_task content c.args.k) in
-    rw (c.of.ensures.refuted, c.of.ensures.left_open) (top_words all (word_of c.rise.new.found.refuted) (word_of c.rise.new.found.left_open) (rw c.root.ensures at c.rise.ensures))
+    rw (c.of.ensures.refuted, c.of.ensures.left_open) (top_ordinals all (ordinal_of c.rise.new.found.refuted) (ordinal_of c.rise.new.found.left_open) (rw c.root.ensures at c.rise.ensures))

@@ -1,8 +1,8 @@
 use Rattle.std.proofs.Common.{◌≡◌, ◌∙◌, arith, rules}
 use Rattle.cell_split.specs.Tree.{leaves, root_task}
 use Rattle.plain_search.specs.declared.ranks_alone.TopRanks.{TopRanks}
-use Rattle.plain_search.specs.Harvests.{word_of}
-use Rattle.plain_search.specs.TopRanks.{AreTopWords}
+use Rattle.plain_search.specs.Harvests.{ordinal_of}
+use Rattle.plain_search.specs.TopRanks.{AreTopOrdinals}
 use Rattle.steal_pool.proofs.Places.{each_push}
 use Rattle.steal_pool.proofs.calls.ranks_in_turn.Goals as goal
 
@@ -14,7 +14,7 @@ loop-problem-preserved g c =
       end = search rules;
       counted = search rules;
       each = rw c.in_ok-push.ensures.items
-          (each_push (λ k (x : TopRanks). AreTopWords (leaves content (root_task content k)) (word_of x.refuted) (word_of x.left_open)) at.found.items c.top_ranks.result at.problem at.invariant.counted at.invariant.each c.top_ranks.ensures);
+          (each_push (λ k (x : TopRanks). AreTopOrdinals (leaves content (root_task content k)) (ordinal_of x.refuted) (ordinal_of x.left_open)) at.found.items c.top_ranks.result at.problem at.invariant.counted at.invariant.each c.top_ranks.ensures);
     }
 
 pub returns : goal.returns

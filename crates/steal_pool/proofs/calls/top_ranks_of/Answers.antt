@@ -1,9 +1,9 @@
 use Rattle.std.proofs.Common.{◌≡◌, ◌<◌, None, slice_index_or, ap₂, ◌∙◌, arith, rules}
 use Rattle.std.proofs.lemmas.List.{get_or_default}
-use Rattle.plain_search.specs.Harvests.{word_of}
+use Rattle.plain_search.specs.Harvests.{ordinal_of}
 use Rattle.plain_search.specs.TopRanks.{above}
 use Rattle.plain_search.specs.declared.ranks_alone.TopRanks.{TopRanks}
-use Rattle.steal_pool.proofs.Finding.{IsTopOf, top_words}
+use Rattle.steal_pool.proofs.Finding.{IsTopOf, top_ordinals}
 use Rattle.steal_pool.proofs.Places.{each_push}
 use Rattle.steal_pool.proofs.calls.top_ranks_of.Goals as goal
 
@@ -21,7 +21,7 @@ loop-problem-preserved g c =
           (each_push (λ k (top : TopRanks). IsTopOf (slice_index_or found.ranks.items k None) (slice_index_or found.store.ranks.items k None) top) at.tops.items c.of.result at.problem at.invariant.counted at.invariant.each
           (record {
             same = c.of.ensures.refuted ∙ first;
-            left_open = c.of.ensures.left_open ∙ ap₂ (λ r o. above (word_of r) (word_of o)) first second;
+            left_open = c.of.ensures.left_open ∙ ap₂ (λ r o. above (ordinal_of r) (ordinal_of o)) first second;
           }));
     }
 
@@ -30,4 +30,4 @@ returns g c =
     let content = g.J.Judge.content c.args.judge.now in
     let at = c.loop-problem in
     let all : at.problem ≡ content.problems = search rules in
-    top_words content c.args.found.now.ranks.items c.args.found.now.store.ranks.items at.tops.items (g.met.J.Judge.lawful c.args.judge.now) c.requires (at.invariant.counted ∙ all) (λ k d known. at.invariant.each k d (omega (arith, all, known)))
+    top_ordinals content c.args.found.now.ranks.items c.args.found.now.store.ranks.items at.tops.items (g.met.J.Judge.lawful c.args.judge.now) c.requires (at.invariant.counted ∙ all) (λ k d known. at.invariant.each k d (omega (arith, all, known)))
