@@ -24,7 +24,7 @@ use std::alloc::Global;
 use sun_choice::SunChoice;
 
 /// The root at the least longitude and the least latitude of a district.
-pub(crate) fn root_over(district: &District) -> Cell
+pub fn root_over(district: &District) -> Cell
     ensures value { result ≡ root_at (least (longitudes district.now)) (least (latitudes district.now)) }
     ensures root { IsRoot result }
     ensures over { IsOver result district.now }

@@ -13,5 +13,6 @@ mod tiles;
 mod values;
 mod verdicts;
 
+pub use judge::root_over;
 pub use sines::sines_of;
 pub use sky::Sky;

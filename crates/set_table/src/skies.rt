@@ -7,7 +7,7 @@ ghost use Rattle.set_reader.specs.Together.{AreParts};
 ghost use Rattle.set_table.specs.Made.{scope_of, scope_over};
 
 use cell_judge::Sky;
-use cell_split::{Cell, root_at};
+use cell_split::Cell;
 use method_table::Problem;
 use no_memory::NoMemory;
 use region::District;
@@ -23,7 +23,7 @@ pub(crate) fn root_of(whole: &District, parts: &Parts) -> Cell
     ensures over { All (IsOver result) parts.now }
 {
     whole.has_no_fault();
-    root_at(whole.west(), whole.south())
+    cell_judge::root_over(whole)
 }
 
 /// The sky over a district under this sun, with a root that is given.
