@@ -112,9 +112,6 @@ module _ (s : Sheet) (f : Day → DayTable) where
       ∙ ap (days_text s) (map-append f (take i days) (day ∷ drop (i + 1) days))
       ∙ flat_map-append (day_text s) (map f (take i days)) (f day ∷ map f (drop (i + 1) days))
 
-  pub text_of_both : (x y : List Day) → days_text s (map f (x ++ y)) ≡ days_text s (map f x) ++ days_text s (map f y)
-  text_of_both x y = ap (days_text s) (map-append f x y) ∙ flat_map-append (day_text s) (map f x) (map f y)
-
 -- ---- the whole calendar
 
 nested : (s : Sheet) (number : ℤ) (found : List (Row × Entry)) →

@@ -1,5 +1,5 @@
-// The calendar of an order, some of its days at a time.
-ghost use Rattle.std.specs.Prelude.{◌≡◌, ◌≤◌, ◌*◌, ◌++◌, All, IfOk, count_by, length, map, zip};
+// The calendar of an order, its days searched together.
+ghost use Rattle.std.specs.Prelude.{◌≡◌, ◌≤◌, ◌++◌, All, IfOk, count_by, length, map, zip};
 ghost use Rattle.ical_text.specs.Calendar.{head_text};
 ghost use Rattle.method_table.specs.Row.{row_of};
 ghost use Rattle.order_calendar.specs.Calendar.{calendar_of};
@@ -28,7 +28,7 @@ use std::alloc::Global;
 use std::sync::Wait;
 use std::thread::Threads;
 use steal_pool::Gate;
-use worker_table::{end_of_search, search_days};
+use worker_table::search_days;
 
 /// Writes the events of a day with these entries; answers how many of them are undecided.
 fn write_day<K: Sink>(
@@ -68,7 +68,6 @@ fn write_days<K: Sink>(
     ensures writes { Writes (days_text (sheet_seen sheet.now) (map (searched sky.now.sun sky.now.district sky.now.root) days.now)) result
         (K.faults out.old) (K.faults out.new) (K.held out.old) (K.held out.new) }
     ensures count { IfOk result (λ count. count ≡ days_undecided (map (searched sky.now.sun sky.now.district sky.now.root) days.now)) }
-    ensures few { IfOk result (λ count. count ≤ 7 * length days.now) }
 {
     let mut undecided = 0;
     for (i, day) in days.iter().enumerate() {
@@ -80,7 +79,7 @@ fn write_days<K: Sink>(
     Ok(undecided)
 }
 
-/// Searches these days together and writes their events; answers how many of their entries are undecided.
+/// Searches all days together and writes their events; answers how many of their entries are undecided.
 fn write_together<R: Threads + Wait + Sync, K: Sink, G: Gate + Sync>(
     rt: &R,
     alloc: Global,
@@ -97,43 +96,11 @@ fn write_together<R: Threads + Wait + Sync, K: Sink, G: Gate + Sync>(
     ensures writes { Writes (days_text (sheet_seen sheet.now) (map (searched sky.now.sun sky.now.district sky.now.root) days.now)) result
         (K.faults out.old) (K.faults out.new) (K.held out.old) (K.held out.new) }
     ensures count { IfOk result (λ count. count ≡ days_undecided (map (searched sky.now.sun sky.now.district sky.now.root) days.now)) }
-    ensures few { IfOk result (λ count. count ≤ 7 * length days.now) }
 {
     match search_days(rt, alloc, sky, days, workers, gate) {
         Ok(entries) => write_days(alloc, sheet, sky, days, &entries, out),
         Err(_) => Err(Stop::NoMemory),
     }
-}
-
-/// Searches all days, some of them at a time, and writes their events; answers how many of their entries are undecided.
-fn write_all_days<R: Threads + Wait + Sync, K: Sink, G: Gate + Sync>(
-    rt: &R,
-    alloc: Global,
-    sheet: &Sheet,
-    sky: &Sky,
-    days: &[Day],
-    workers: u32,
-    gate: &G,
-    out: &mut K,
-) -> Result<u32, Stop>
-    requires some { 1 ≤ workers }
-    requires few_workers { workers ≤ 16 }
-    requires few { length days.now ≤ 366 }
-    ensures writes { Writes (days_text (sheet_seen sheet.now) (map (searched sky.now.sun sky.now.district sky.now.root) days.now)) result
-        (K.faults out.old) (K.faults out.new) (K.held out.old) (K.held out.new) }
-    ensures count { IfOk result (λ count. count ≡ days_undecided (map (searched sky.now.sun sky.now.district sky.now.root) days.now)) }
-{
-    let mut undecided = 0;
-    let mut begun = 0;
-    while begun < days.len() {
-        let end = end_of_search(begun, days.len());
-        match write_together(rt, alloc, sheet, sky, &days[begun..end], workers, gate, out) {
-            Ok(count) => undecided += count,
-            Err(stop) => return Err(stop),
-        }
-        begun = end;
-    }
-    Ok(undecided)
 }
 
 /// Writes the head, and searches the days and writes their events behind it; answers how many of their entries are undecided.
@@ -154,7 +121,7 @@ fn write_front<R: Threads + Wait + Sync, K: Sink, G: Gate + Sync>(
     ensures count { IfOk result (λ count. count ≡ days_undecided (found_in ready.now)) }
 {
     match write_all(out, calendar_head().as_bytes()) {
-        Ok(()) => write_all_days(
+        Ok(()) => write_together(
             rt,
             alloc,
             sheet,

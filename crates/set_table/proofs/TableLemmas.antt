@@ -1,7 +1,7 @@
 -- A table of a set that is written some days at a time.
-use Rattle.std.proofs.Common.{◌≡◌, ℕ, ◌+◌, ◌<◌, List, [], ◌∷◌, ◌++◌, length, map, take, drop, get_or, refl, sym, ap, ◌∙◌, append-nil, arith}
+use Rattle.std.proofs.Common.{◌≡◌, ℕ, ◌+◌, ◌-◌, ◌<◌, ◌≤◌, List, [], ◌∷◌, ◌++◌, length, map, take, drop, get_or, refl, sym, ap, ◌∙◌, append-nil, append_assoc, arith}
 use Rattle.std.specs.Prelude.{sum_by}
-use Rattle.std.proofs.lemmas.List.{drop_more, length-map, map-append, map_more, take-append-drop}
+use Rattle.std.proofs.lemmas.List.{drop-take, drop_more, length-map, map-append, map_more, take-append-drop, take-take}
 use Rattle.std.proofs.lemmas.List.Concat.{flat_map-append}
 use Rattle.std.proofs.lemmas.List.Sums.{sum_by-append}
 use Rattle.cell_judge.specs.declared.sky.Sky.{Sky}
@@ -10,6 +10,22 @@ use Rattle.order_table.specs.Made.{day_of}
 use Rattle.order_table.specs.declared.day.Day.{Day}
 use Rattle.set_table.specs.Made.{entries_on, entries_on_days, searched}
 use Rattle.set_table.specs.Table.{set_day, set_day_text, set_day_undecided, set_days_text, set_days_undecided}
+
+-- ---- days that follow each other
+
+-- the days up to a number, by those up to a lesser one
+pub days_between : (days : List Day) (begun end : ℕ) → begun ≤ end → take end days ≡ take begun days ++ take (end - begun) (drop begun days)
+days_between days begun end before =
+    let sum : begun + (end - begun) ≡ end = omega (arith, before) in
+    ap (λ n. take n days) (sym sum) ∙ sym (take-append-drop begun (take (begun + (end - begun)) days))
+    ∙ ap (λ (ds : List Day). ds ++ drop begun (take (begun + (end - begun)) days)) (take-take begun (begun + (end - begun)) days (omega arith))
+    ∙ ap (λ (ds : List Day). take begun days ++ ds) (drop-take begun (end - begun) days)
+
+-- and all of them
+pub days_around : (days : List Day) (begun end : ℕ) → begun ≤ end → days ≡ take begun days ++ (take (end - begun) (drop begun days) ++ drop end days)
+days_around days begun end before =
+    sym (take-append-drop end days) ∙ ap (λ (ds : List Day). ds ++ drop end days) (days_between days begun end before)
+    ∙ append_assoc (take begun days) (take (end - begun) (drop begun days)) (drop end days)
 
 -- ---- the entries of a day, in front of those of the days after it
 
@@ -39,7 +55,7 @@ module _ (skies : List Sky) where
       ap (λ (es : List (List Entry)). drop n es) are
       ∙ drop_front (entries_on skies day) (entries_on_days skies days) n (same ∙ sym (length-map skies _))
 
-  -- ---- days that follow each other
+  -- ---- what is written of days that follow each other
 
   pub text_of_both : (x y : List Day) →
       set_days_text (map (searched skies) (x ++ y)) ≡ set_days_text (map (searched skies) x) ++ set_days_text (map (searched skies) y)

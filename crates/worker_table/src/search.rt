@@ -93,21 +93,3 @@ pub fn search_days<R: Threads + Wait + Sync, G: Gate + Sync>(
     let ranks = search_ranks(rt, alloc, &all_days, workers, gate)?;
     entries_of_days(alloc, &all_days, &ranks, days)
 }
-
-/// How many days the first search of a table serves: so few that its first lines come long before its last day is searched.
-const FIRST_DAYS: usize = 8;
-
-/// Where the search ends that begins with day `begun` of so many: the second one serves all that are left, since starting
-/// workers costs as much as searching some days.
-pub fn end_of_search(begun: usize, days: usize) -> usize
-    requires within { begun < days }
-    requires few { days ≤ 366 }
-    ensures later { begun < result }
-    ensures within { result ≤ days }
-{
-    if begun == 0 {
-        days.min(FIRST_DAYS)
-    } else {
-        days
-    }
-}

@@ -1,5 +1,5 @@
-// The table of an order, some of its days at a time.
-ghost use Rattle.std.specs.Prelude.{◌≡◌, ◌≤◌, ◌*◌, All, IfOk, length, map};
+// The table of an order, its days searched together.
+ghost use Rattle.std.specs.Prelude.{◌≡◌, ◌≤◌, All, IfOk, length, map};
 ghost use Rattle.order_rule.specs.Asked.{asked_of};
 ghost use Rattle.order_table.specs.Made.{searched};
 ghost use Rattle.order_table.specs.Printing.{IsPrintable};
@@ -9,7 +9,7 @@ ghost use Rattle.order_table.specs.Trees.{table_of, undecided};
 ghost use Rattle.outcome.specs.Writing.{Writes};
 ghost use Rattle.worker_table.specs.Entries.{entries_on};
 
-use crate::search::{end_of_search, search_days};
+use crate::search::search_days;
 use cell_judge::Sky;
 use cell_split::Entry;
 use order_rule::Order;
@@ -36,10 +36,6 @@ fn write_days<K: Sink>(
     ensures writes { Writes (days_text (map (searched sky.old.sun sky.old.district sky.old.root) days.now)) result
         (K.faults out.old) (K.faults out.new) (K.held out.old) (K.held out.new) }
     ensures count { IfOk result (λ count. count ≡ days_undecided (map (searched sky.old.sun sky.old.district sky.old.root) days.now)) }
-    ensures few { IfOk result (λ count. count ≤ 7 * length days.now) }
-    ensures sun { sky.new.sun ≡ sky.old.sun }
-    ensures district { sky.new.district ≡ sky.old.district }
-    ensures root { sky.new.root ≡ sky.old.root }
 {
     let mut undecided = 0;
     for (i, day) in days.iter().enumerate() {
@@ -51,7 +47,7 @@ fn write_days<K: Sink>(
     Ok(undecided)
 }
 
-/// Searches these days together and writes their lines; answers how many of their columns' entries are undecided.
+/// Searches all days together and writes their lines; answers how many of their columns' entries are undecided.
 fn write_together<R: Threads + Wait + Sync, K: Sink, G: Gate + Sync>(
     rt: &R,
     alloc: Global,
@@ -67,46 +63,11 @@ fn write_together<R: Threads + Wait + Sync, K: Sink, G: Gate + Sync>(
     ensures writes { Writes (days_text (map (searched sky.old.sun sky.old.district sky.old.root) days.now)) result
         (K.faults out.old) (K.faults out.new) (K.held out.old) (K.held out.new) }
     ensures count { IfOk result (λ count. count ≡ days_undecided (map (searched sky.old.sun sky.old.district sky.old.root) days.now)) }
-    ensures few { IfOk result (λ count. count ≤ 7 * length days.now) }
-    ensures sun { sky.new.sun ≡ sky.old.sun }
-    ensures district { sky.new.district ≡ sky.old.district }
-    ensures root { sky.new.root ≡ sky.old.root }
 {
     match search_days(rt, alloc, sky, days, workers, gate) {
         Ok(entries) => write_days(alloc, sky, days, &entries, out),
         Err(_) => Err(Stop::NoMemory),
     }
-}
-
-/// Searches all days, some of them at a time, and writes their lines; answers how many of their columns' entries are
-/// undecided.
-fn write_all_days<R: Threads + Wait + Sync, K: Sink, G: Gate + Sync>(
-    rt: &R,
-    alloc: Global,
-    sky: &mut Sky,
-    days: &[Day],
-    workers: u32,
-    gate: &G,
-    out: &mut K,
-) -> Result<u32, Stop>
-    requires some { 1 ≤ workers }
-    requires few_workers { workers ≤ 16 }
-    requires few { length days.now ≤ 366 }
-    ensures writes { Writes (days_text (map (searched sky.old.sun sky.old.district sky.old.root) days.now)) result
-        (K.faults out.old) (K.faults out.new) (K.held out.old) (K.held out.new) }
-    ensures count { IfOk result (λ count. count ≡ days_undecided (map (searched sky.old.sun sky.old.district sky.old.root) days.now)) }
-{
-    let mut undecided = 0;
-    let mut begun = 0;
-    while begun < days.len() {
-        let end = end_of_search(begun, days.len());
-        match write_together(rt, alloc, sky, &days[begun..end], workers, gate, out) {
-            Ok(count) => undecided += count,
-            Err(stop) => return Err(stop),
-        }
-        begun = end;
-    }
-    Ok(undecided)
 }
 
 /// Writes the table of an order, searched by 1 to 16 workers; answers how many of its entries are undecided.
@@ -131,7 +92,7 @@ pub fn write_table<R: Threads + Wait + Sync, K: Sink, G: Gate + Sync>(
         Ok(ready) => ready,
         Err(stop) => return Err(stop),
     };
-    let undecided = match write_all_days(
+    let undecided = match write_together(
         rt,
         alloc,
         &mut ready.sky,

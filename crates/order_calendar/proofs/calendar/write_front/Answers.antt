@@ -12,10 +12,10 @@ returns-in-Ok-clause-writes g c =
     let ready = c.args.ready.now in
     let f = searched ready.sky.sun ready.sky.district ready.sky.root in
     then_writes {X = ℕ} c.as_bytes.result.now (days_text s (map f c.deref.result.now)) (head_text ++ days_text s (found_in ready))
-    c.write_all_days.result _ _ _ _ _ _
+    c.write_together.result _ _ _ _ _ _
     (ap (λ t. t ++ days_text s (found_in ready)) (sym (c.as_bytes.ensures.value ∙ c.calendar_head.ensures))
     ∙ ap (λ ds. c.as_bytes.result.now ++ days_text s (map f ds)) (sym c.deref.ensures.value))
-    c.in-Ok.ensures.ok c.in-Ok.ensures.later c.write_all_days.ensures.writes
+    c.in-Ok.ensures.ok c.in-Ok.ensures.later c.write_together.ensures.writes
 
 pub returns-in-Err-clause-writes : goal.returns-in-Err-clause-writes
 returns-in-Err-clause-writes g c =

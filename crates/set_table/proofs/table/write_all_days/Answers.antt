@@ -3,10 +3,9 @@ use Rattle.std.proofs.lemmas.List.{length-drop, length-take-le}
 use Rattle.source_sink.proofs.Transfers.{adds_more}
 use Rattle.order_table.specs.declared.day.Day.{Day}
 use Rattle.outcome.proofs.Streams.{stopped}
-use Rattle.worker_table.proofs.TableLemmas.{days_around, days_between}
 use Rattle.set_table.specs.Made.{searched}
 use Rattle.set_table.specs.Table.{set_days_text, set_days_undecided}
-use Rattle.set_table.proofs.TableLemmas.{text_of_both, undecided_of_both}
+use Rattle.set_table.proofs.TableLemmas.{days_around, days_between, text_of_both, undecided_of_both}
 use Rattle.set_table.proofs.table.write_all_days.Goals as goal
 
 pub returns-in-Err-clause-writes : goal.returns-in-Err-clause-writes
