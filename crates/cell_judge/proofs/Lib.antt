@@ -4,6 +4,7 @@ pub mod EntryLaws
 pub mod ExtentLemmas
 pub mod JudgeLemmas
 pub mod KindLaws
+pub mod Lawful
 pub mod NamedLemmas
 pub mod QuarterLemmas
 pub mod PointLemmas

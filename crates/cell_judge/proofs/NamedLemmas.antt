@@ -19,7 +19,7 @@ use Rattle.plane_edges.proofs.OnEdge.{progress_within}
 use Rattle.region.proofs.Along.{short_rest, short_start, is_edge}
 use Rattle.ring_survey.proofs.Reach.{all_short}
 use Rattle.ring_survey.proofs.Sound.{sound}
-use Rattle.cell_judge.specs.Points.{IsPoint}
+use Rattle.cell_judge.proofs.PointLemmas.{IsPoint}
 
 -- an edge that spans at most 2^29 place units each way
 record IsShort (e : Segment) : Type 0 where

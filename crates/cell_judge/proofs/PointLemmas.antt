@@ -1,4 +1,4 @@
--- The point at a place is the code's own.
+-- The point at a place is the code's own, where the place is within the limits of points.
 use Rattle.std.proofs.Common.{◌≡◌, ◌^◌, Option, Some, None, sym, ap, subst, ◌∙◌, arith}
 use Rattle.std.specs.Prelude.{ℤ, pos, neg_ℤ, ◌≤ℤ◌}
 use Rattle.std.specs.Option.{option_map}
@@ -8,14 +8,33 @@ use Rattle.plane_edges.specs.declared.points.Point.{Point}
 use Rattle.plane_edges.specs.Magnitude.{IsWithin}
 use Rattle.plane_edges.specs.Plane.{Place}
 use Rattle.plane_edges.specs.Views.{place_of}
-use Rattle.cell_judge.specs.Points.{IsPoint, held, held_is_point, held_place, point_at, point_of}
+use Rattle.cell_judge.specs.Points.{held, point_of}
+
+-- the place is within the limits of points
+pub record IsPoint (p : Place) : Type 0 where
+  pub positive : pos 1 ≤ℤ p.d
+  pub short : p.d ≤ℤ pos (2 ^ 30)
+  pub a_within : IsWithin (pos (2 ^ 70)) p.a
+  pub b_within : IsWithin (pos (2 ^ 70)) p.b
+
+abbrev point_at : (p : Place) → IsPoint p → Point
+point_at p is = record {
+  a = p.a;
+  b = p.b;
+  d = p.d;
+  positive = is.positive;
+  short = is.short;
+  a_within = is.a_within;
+  b_within = is.b_within;
+}
 
 -- what is within the limits stays as it is
 held_same : (low high z : ℤ) → low ≤ℤ z → z ≤ℤ high → held low high z ≡ z
 held_same low high z g h = omega (arith, ints, clamps, g, h)
 
-place_held : (p : Place) → IsPoint p → held_place p ≡ p
-place_held p is =
+pub place_of_point : (p : Place) → IsPoint p → place_of (point_of p) ≡ p
+unfolding point_of
+place_of_point p is =
     let a = held_same (neg_ℤ (pos (2 ^ 70))) (pos (2 ^ 70)) p.a is.a_within.low is.a_within.high in
     let b = held_same (neg_ℤ (pos (2 ^ 70))) (pos (2 ^ 70)) p.b is.b_within.low is.b_within.high in
     let d = held_same (pos 1) (pos (2 ^ 30)) p.d is.positive is.short in
@@ -48,11 +67,8 @@ of_point q = record { positive = q.positive; short = q.short; a_within = q.a_wit
 pub point_of_place : (q : Point) → q ≡ point_of (place_of q)
 unfolding point_of
 point_of_place q =
-    at_same_place (place_of q) (held_place (place_of q)) (of_point q) (held_is_point (place_of q)) (sym (place_held (place_of q) (of_point q)))
-
-pub place_of_point : (p : Place) → IsPoint p → place_of (point_of p) ≡ p
-unfolding point_of
-place_of_point p is = place_held p is
+    let held_point = point_of (place_of q) in
+    at_same_place (place_of q) (place_of held_point) (of_point q) (of_point held_point) (sym (place_of_point (place_of q) (of_point q)))
 
 -- the code's answer is the point at the place that it is to be
 pub points_of : (o : Option Point) (p : Option Place) → option_map place_of o ≡ p → o ≡ option_map point_of p

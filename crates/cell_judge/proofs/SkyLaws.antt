@@ -34,14 +34,14 @@ use Rattle.cell_split.specs.Cells.{IsCell, is_smallest}
 use Rattle.cell_split.specs.Laws.{box_of}
 use Rattle.cell_split.proofs.CellLemmas.{cell_limits}
 use Rattle.cell_judge.specs.Conditions.{Fails, Holds, IsNear, holds_above, spot_of, tolerance_bits, value_at}
-use Rattle.cell_judge.specs.Points.{IsPoint, point_of}
+use Rattle.cell_judge.specs.Points.{point_of}
 use Rattle.cell_judge.specs.Scenes.{FailsAt, HoldsAt, IsNearAt, IsOpenAt, IsPlaceOf, IsRankOf, IsRefutedAt, IsTrueVerdict, Scene}
 use Rattle.cell_judge.specs.Skies.{between, grid_value, lies_above, lies_below, minutes_at, places_at, row_at, shows_failed, shows_held, verdict_at, verdict_by, verdict_on, verdict_with}
 use Rattle.cell_judge.specs.Limits.{IsInLimits}
 use Rattle.cell_judge.specs.SkyLaws.{IsRow, NamedPlacesArePoints, ProblemsAreRows, SkiesTellTheTruth, VerdictsOfEverySunAreTrue, scene_at}
 use Rattle.cell_judge.proofs.EntryLaws.{conditions_are_one_sided}
 use Rattle.cell_judge.proofs.NamedLemmas.{named_is_point}
-use Rattle.cell_judge.proofs.PointLemmas.{place_of_point}
+use Rattle.cell_judge.proofs.PointLemmas.{IsPoint, place_of_point}
 use Rattle.cell_judge.proofs.TruthLemmas.{shows_near, shows_side, spot_among}
 
 -- ---- one value by its enclosure; `above` says that the condition holds above zero

@@ -10,7 +10,6 @@ pub mod Tiles
 pub mod Sines
 pub mod Skies
 pub mod Shared
-pub mod Lawful
 pub mod SkyLaws
 pub mod KindLaws
 pub mod DayLaws

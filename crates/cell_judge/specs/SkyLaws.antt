@@ -15,6 +15,7 @@ use Rattle.plane_edges.specs.Views.{place_of}
 use Rattle.ring_survey.specs.Faults.{first_fault}
 use Rattle.cell_split.specs.declared.cell.Cell.{Cell}
 use Rattle.cell_split.specs.Cells.{IsCell, IsRoot}
+use Rattle.cell_split.specs.Judges.{IsLawful}
 use Rattle.cell_split.specs.Laws.{box_of}
 use Rattle.cell_judge.specs.EntryLaws.{LiesInRoot, TellsTruth}
 use Rattle.cell_judge.specs.Limits.{AreInLimits, IsInLimits, IsOver}
@@ -45,6 +46,10 @@ SkiesTellTheTruth =
     (sun : SunChoice) (polygons : List Polygon) (rows : List Row) (root : Cell) → first_fault polygons ≡ None → IsRoot root →
     (k : ℕ) → k < length rows → IsRow (row_at rows k) →
     TellsTruth (sky_content sun polygons rows root) k (scene_at sun polygons rows k)
+
+-- a smallest cell is never split by a sky, and only a smallest cell is open
+abbrev pub SkiesAreLawful : Type 0
+SkiesAreLawful = (sun : SunChoice) (polygons : List Polygon) (rows : List Row) (root : Cell) → IsRoot root → IsLawful (sky_content sun polygons rows root)
 
 -- the problems of a sky are such rows
 abbrev pub ProblemsAreRows : Type 0

@@ -128,11 +128,10 @@ impl Judge for Sky {
     ghost use Rattle.std.specs.Prelude.{map};
     ghost use Rattle.method_table.specs.Row.{row_of};
     ghost use Rattle.cell_judge.specs.Skies.{sky_content};
-    ghost use Rattle.cell_judge.specs.Lawful.{skies_are_lawful};
 
     ghost content = { λ sky. sky_content sky.sun sky.district (map row_of sky.problems) sky.root };
 
-    ghost lawful = { λ sky. skies_are_lawful sky.sun sky.district (map row_of sky.problems) sky.root sky.is_root };
+    ghost lawful = { λ sky. sky.lawful };
 
     fn problems(&self) -> u32 {
         7

@@ -2,8 +2,7 @@
 ghost use Rattle.cell_judge.specs.DayLaws.{DaysAreInLimits, DaysHaveRows};
 ghost use Rattle.cell_judge.specs.EntryLaws.{DistrictsLieInTheirRoot, TrueVerdictsMakeRightEntries, ConditionsAreOneSided, OneDecidedEntryIsRight};
 ghost use Rattle.cell_judge.specs.KindLaws.{GridHoldsEveryKind, ValuesOfEveryKindNarrow};
-ghost use Rattle.cell_judge.specs.Lawful.{SkiesAreLawful};
-ghost use Rattle.cell_judge.specs.SkyLaws.{DistrictsLieInRootsOverThem, NamedPlacesArePoints, ProblemsAreRows, SkiesTellTheTruth, VerdictsOfEverySunAreTrue};
+ghost use Rattle.cell_judge.specs.SkyLaws.{DistrictsLieInRootsOverThem, NamedPlacesArePoints, ProblemsAreRows, SkiesAreLawful, SkiesTellTheTruth, VerdictsOfEverySunAreTrue};
 
 /// Under every sun a verdict is true: where a cell is proved, the condition holds at every place of the district in the
 /// box at every rank; where it is refuted, it fails at the point at every rank; where it is outside, no place of the

@@ -16,7 +16,7 @@ use Rattle.cell_split.specs.Cells.{IsRoot}
 use Rattle.cell_split.specs.Judges.{Content, IsLawful}
 use Rattle.cell_split.proofs.Every.{Every}
 use Rattle.cell_split.proofs.Renumbering.{renumbered_trees}
-use Rattle.cell_judge.specs.Lawful.{skies_are_lawful}
+use Rattle.cell_judge.proofs.Lawful.{skies_are_lawful}
 use Rattle.cell_judge.specs.Skies.{row_at, sky_content}
 use Rattle.serde_json.specs.Written.{compact_text}
 use Rattle.covering.specs.declared.settled.Settled.{Settled}

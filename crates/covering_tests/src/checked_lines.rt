@@ -130,10 +130,7 @@ fn members_have_their_forms(rt: HostRuntime) -> Result<(), Fail> {
 
 #[test]
 fn a_place_is_compared_by_its_numbers(rt: HostRuntime) -> Result<(), Fail> {
-    let judge = Late {
-        root: root_at(100_000, 0),
-        point: Point::new(12_800_000, 0, 1),
-    };
+    let judge = Late::new(root_at(100_000, 0), Point::new(12_800_000, 0, 1));
     let same = shown(
         &rt,
         rt.alloc(),
@@ -169,10 +166,7 @@ fn a_place_is_compared_by_its_numbers(rt: HostRuntime) -> Result<(), Fail> {
 fn written_lines_are_accepted_and_a_million_letters_are_too_many(
     rt: HostRuntime,
 ) -> Result<(), Fail> {
-    let judge = Threshold {
-        root: root_at(100_000, 0),
-        point: Point::new(12_800_000, 0, 1),
-    };
+    let judge = Threshold::new(root_at(100_000, 0), Point::new(12_800_000, 0, 1));
     assert!(rt; judge.problems() > 0);
     let settled = settled(&rt, rt.alloc(), &judge)?;
     let runs = cover_line(rt.alloc(), "fajr", "2000-01-01", &settled)?;

@@ -25,10 +25,7 @@ pub(crate) fn settled<J: Judge>(
 fn an_open_tree_names_its_first_open_and_its_first_refuted_cell(
     rt: HostRuntime,
 ) -> Result<(), Fail> {
-    let judge = Threshold {
-        root: root_at(100_000, 0),
-        point: Point::new(12_800_000, 0, 1),
-    };
+    let judge = Threshold::new(root_at(100_000, 0), Point::new(12_800_000, 0, 1));
     let settled = settled(&rt, rt.alloc(), &judge)?;
     let smallest = Cell {
         x: 12_800_000,
@@ -59,10 +56,7 @@ fn an_open_tree_names_its_first_open_and_its_first_refuted_cell(
 
 #[test]
 fn a_tree_that_is_refuted_to_its_last_rank_has_one_letter(rt: HostRuntime) -> Result<(), Fail> {
-    let judge = Late {
-        root: root_at(100_000, 0),
-        point: Point::new(12_800_000, 0, 1),
-    };
+    let judge = Late::new(root_at(100_000, 0), Point::new(12_800_000, 0, 1));
     let settled = settled(&rt, rt.alloc(), &judge)?;
     let later_half = Cell {
         first: 360,
@@ -87,10 +81,7 @@ fn a_tree_that_is_nowhere_refuted_names_no_cell(rt: HostRuntime) -> Result<(), F
 
 #[test]
 fn a_line_has_its_members_in_the_order_of_their_names(rt: HostRuntime) -> Result<(), Fail> {
-    let judge = Late {
-        root: root_at(100_000, 0),
-        point: Point::new(-12_800_001, 0, 3),
-    };
+    let judge = Late::new(root_at(100_000, 0), Point::new(-12_800_001, 0, 3));
     let settled = settled(&rt, rt.alloc(), &judge)?;
     let runs = cover_line(rt.alloc(), "f.end", "2025-03-01", &settled)?;
     let tree = cover_line_1(rt.alloc(), "f.end", "2025-03-01", &settled)?;

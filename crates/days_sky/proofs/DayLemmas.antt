@@ -16,7 +16,7 @@ use Rattle.cell_split.specs.Renumbered.{AnswersAs}
 use Rattle.cell_split.specs.Split.{children_of}
 use Rattle.cell_split.specs.Tree.{child_tasks, task_of}
 use Rattle.cell_split.proofs.Renumbering.{renumbered_trees}
-use Rattle.cell_judge.specs.Lawful.{skies_are_lawful}
+use Rattle.cell_judge.proofs.Lawful.{skies_are_lawful}
 use Rattle.cell_judge.specs.Skies.{row_at, sky_content, verdict_on}
 use Rattle.days_sky.specs.declared.day.Day.{Day}
 use Rattle.days_sky.specs.Days.{DaysHaveTheirOwnTrees, all_rows, days_content, rows_of_day}

@@ -26,12 +26,12 @@ impl<'a> DaysSky<'a> {
 
 impl Judge for DaysSky<'_> {
     ghost use Rattle.std.specs.Prelude.{map};
-    ghost use Rattle.cell_judge.specs.Lawful.{skies_are_lawful};
+    ghost use Rattle.cell_judge.proofs.Lawful.{skies_are_lawful};
     ghost use Rattle.days_sky.specs.Days.{all_rows, days_content, rows_of_day};
 
     ghost content = { λ j. days_content j.sky.now.sun j.sky.now.district (map rows_of_day j.days.now) j.sky.now.root };
 
-    ghost lawful = { λ j. skies_are_lawful j.sky.now.sun j.sky.now.district (all_rows (map rows_of_day j.days.now)) j.sky.now.root j.sky.now.is_root };
+    ghost lawful = { λ j. skies_are_lawful j.sky.now.sun j.sky.now.district (all_rows (map rows_of_day j.days.now)) j.sky.now.root j.sky.now.lawful.root };
 
     fn problems(&self) -> u32 {
         7 * self.days.len() as u32

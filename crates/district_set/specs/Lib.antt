@@ -1,4 +1,3 @@
 pub mod Joins
 pub mod Sets
-pub mod Lawful
 pub mod JoinLaws

@@ -1,6 +1,7 @@
 // The judge of several districts.
 ghost use Rattle.std.specs.Prelude.{◌≡◌, ◌≤◌, length, map};
-ghost use Rattle.district_set.specs.Sets.{AreAlike};
+ghost use Rattle.cell_split.specs.Judges.{IsLawful};
+ghost use Rattle.district_set.specs.Sets.{AreAlike, set_content};
 
 use cell_split::{Cell, Judge, Judged, Task, Verdict};
 
@@ -11,6 +12,7 @@ pub struct SetSky<'a, J: Judge> {
     ghost some: { 1 ≤ length skies.now },
     ghost few: { length skies.now ≤ 64 },
     ghost alike: { AreAlike (map J.content skies.now) },
+    ghost lawful: { IsLawful (set_content (map J.content skies.now)) },
 }
 
 impl<'a, J: Judge> SetSky<'a, J> {
@@ -27,11 +29,10 @@ impl<'a, J: Judge> SetSky<'a, J> {
 
 impl<J: Judge> Judge for SetSky<'_, J> {
     ghost use Rattle.district_set.specs.Sets.{set_content};
-    ghost use Rattle.district_set.specs.Lawful.{lawful_set};
 
     ghost content = { λ s. set_content (map J.content s.skies.now) };
 
-    ghost lawful = { λ s. lawful_set J.content J.lawful s.skies.now s.some s.alike };
+    ghost lawful = { λ s. s.lawful };
 
     fn problems(&self) -> u32 {
         7 * self.skies.len() as u32

@@ -92,11 +92,11 @@ impl Judge for MeeusSky {
     ghost use Rattle.sun_choice.specs.declared.choice.SunChoice.TheVariants.{Meeus};
     ghost use Rattle.method_table.specs.Row.{row_of};
     ghost use Rattle.cell_judge.specs.Skies.{sky_content};
-    ghost use Rattle.cell_judge.specs.Lawful.{skies_are_lawful};
+    ghost use Rattle.cell_judge.proofs.Lawful.{skies_are_lawful};
 
     ghost content = { λ s. sky_content Meeus s.sky.district (map row_of s.sky.problems) s.sky.root };
 
-    ghost lawful = { λ s. skies_are_lawful Meeus s.sky.district (map row_of s.sky.problems) s.sky.root s.sky.is_root };
+    ghost lawful = { λ s. skies_are_lawful Meeus s.sky.district (map row_of s.sky.problems) s.sky.root s.sky.lawful.root };
 
     fn problems(&self) -> u32 {
         self.sky.problems()

@@ -1,3 +1,4 @@
+pub mod FewLemmas
 pub mod BoundLemmas
 pub mod SunLemmas
 pub mod MinuteLemmas

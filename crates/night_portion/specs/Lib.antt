@@ -2,6 +2,5 @@ pub mod Sun
 pub mod Bounds
 pub mod Minutes
 pub mod Few
-pub mod FewLawful
 pub mod SafeNights
 pub mod Laws

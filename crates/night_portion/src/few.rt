@@ -1,5 +1,7 @@
 // The judge of another judge's first problems.
 ghost use Rattle.std.specs.Prelude.{◌≡◌, ◌≤◌};
+ghost use Rattle.cell_split.specs.Judges.{IsLawful};
+ghost use Rattle.night_portion.specs.Few.{first_problems};
 
 use cell_split::{Cell, Judge, Judged, Task, Verdict};
 
@@ -9,10 +11,12 @@ pub struct Few<'a, J: Judge> {
     judge: &'a J,
     count: u32,
     ghost few: { count ≤ (J.content judge.now).problems },
+    ghost lawful: { IsLawful (first_problems count (J.content judge.now)) },
 }
 
 impl<'a, J: Judge> Few<'a, J> {
     /// The first `count` problems of a judge, at least one.
+    #[tactic(auto, using(crate::proofs::FewLemmas::first_problems_are_lawful))]
     pub fn new(judge: &'a J, count: u32) -> Few<'a, J>
         requires some { 1 ≤ count }
         requires few { count ≤ (J.content judge.now).problems }
@@ -25,11 +29,10 @@ impl<'a, J: Judge> Few<'a, J> {
 
 impl<J: Judge> Judge for Few<'_, J> {
     ghost use Rattle.night_portion.specs.Few.{first_problems};
-    ghost use Rattle.night_portion.specs.FewLawful.{first_problems_are_lawful};
 
     ghost content = { λ f. first_problems f.count (J.content f.judge.now) };
 
-    ghost lawful = { λ f. first_problems_are_lawful f.count (J.content f.judge.now) f.few (J.lawful f.judge.now) };
+    ghost lawful = { λ f. f.lawful };
 
     fn problems(&self) -> u32 {
         self.count

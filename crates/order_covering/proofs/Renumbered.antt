@@ -25,7 +25,7 @@ use Rattle.cell_split.specs.Verdicts.{is_refuted, is_split}
 use Rattle.cell_split.proofs.Every.{Every, Every-weaker, flat_map-map, flat_map_same}
 use Rattle.cell_split.proofs.LeafLemmas.{children_are, root_in_itself}
 use Rattle.cell_split.proofs.Renumbering.{renumbered_trees}
-use Rattle.cell_judge.specs.Lawful.{skies_are_lawful}
+use Rattle.cell_judge.proofs.Lawful.{skies_are_lawful}
 use Rattle.cell_judge.specs.Skies.{row_at, sky_content, verdict_on}
 use Rattle.covering.specs.declared.settled.Settled.{Settled}
 use Rattle.covering.specs.Letters.{cut, letter_of, letters_of}
@@ -108,7 +108,7 @@ one_settled count sky' sky days rows same one k s settled =
     let c : Sky → Content = λ x. first_problems count (days_content x.sun x.district (map rows_of_day days) x.root) in
     let day : row_at (all_rows (map rows_of_day days)) k ≡ row_at rows k =
     ap (λ (l : List (List Row)). row_at (all_rows l) k) one ∙ ap (λ (l : List Row). row_at l k) (append-nil rows) in
-    settled_as (c sky) (sky_content sky.sun sky.district rows sky.root) (skies_are_lawful sky.sun sky.district rows sky.root sky.is_root) k k (record {
+    settled_as (c sky) (sky_content sky.sun sky.district rows sky.root) (skies_are_lawful sky.sun sky.district rows sky.root sky.lawful.root) k k (record {
       same_root = refl;
       same_verdicts = λ cell in'. ap (λ (row : Row). verdict_on (grid_sun_of sky.sun) row sky.district cell) day;
     }) s (subst (λ (x : Sky). IsSettled (c x) k s) same settled)

@@ -8,7 +8,7 @@ use Rattle.cell_split.specs.declared.verdict.Entry.{Entry}
 use Rattle.cell_split.specs.declared.verdict.Entry.TheVariants.{Never}
 use Rattle.cell_split.specs.Cells.{IsRoot}
 use Rattle.cell_split.proofs.Renumbering.{renumbered_trees}
-use Rattle.cell_judge.specs.Lawful.{skies_are_lawful}
+use Rattle.cell_judge.proofs.Lawful.{skies_are_lawful}
 use Rattle.cell_judge.specs.RightEntries.{IsRight}
 use Rattle.cell_judge.specs.Skies.{row_at, sky_content, verdict_on}
 use Rattle.chosen_sun.specs.Suns.{exact_sun_of, grid_sun_of}

@@ -15,7 +15,7 @@ use Rattle.cell_split.specs.declared.cell.Cell.{Cell}
 use Rattle.cell_split.specs.declared.verdict.Entry.{Entry}
 use Rattle.cell_split.specs.Cells.{IsRoot}
 use Rattle.cell_judge.specs.EntryLaws.{LiesInRoot}
-use Rattle.cell_judge.specs.Lawful.{skies_are_lawful}
+use Rattle.cell_judge.proofs.Lawful.{skies_are_lawful}
 use Rattle.cell_judge.specs.SkyLaws.{IsRow}
 use Rattle.cell_judge.specs.Skies.{row_at, sky_content}
 use Rattle.cell_judge.proofs.DayLaws.{days_have_rows}

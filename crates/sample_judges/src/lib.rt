@@ -3,9 +3,11 @@
 #![tactic(auto)]
 
 ghost use Rattle.std.proofs.Common.{rules};
-ghost use Rattle.std.specs.Prelude.{pos};
+ghost use Rattle.std.specs.Prelude.{◌≡◌, pos};
 ghost use Rattle.cell_split.specs.Cells.{IsRoot, root_at};
+ghost use Rattle.cell_split.specs.Judges.{IsLawful};
 ghost use Rattle.cell_split.specs.declared.verdict.Verdict.TheVariants.{Outside, Proved};
+ghost use Rattle.sample_judges.specs.Samples.{late, steps, threshold};
 
 use cell_split::{Cell, Judge, Task, Verdict, root_at};
 use plane_edges::Point;
@@ -15,16 +17,24 @@ use plane_edges::Point;
 pub struct Threshold {
     pub root: Cell,
     pub point: Point,
-    pub ghost is_root: { IsRoot root },
+    ghost lawful: { IsLawful (threshold root point) },
+}
+
+impl Threshold {
+    #[tactic(auto, using(crate::proofs::SampleLaws::threshold_lawful))]
+    pub fn new(root: Cell, point: Point) -> Threshold
+        requires { IsRoot root }
+        ensures root { result.root ≡ root }
+        ensures point { result.point ≡ point }
+    {
+        Threshold { root, point }
+    }
 }
 
 impl Judge for Threshold {
-    ghost use Rattle.sample_judges.specs.Samples.{threshold};
-    ghost use Rattle.sample_judges.specs.SampleLaws.{threshold_lawful};
-
     ghost content = { λ j. threshold j.root j.point };
 
-    ghost lawful = { λ j. threshold_lawful j.root j.point j.is_root };
+    ghost lawful = { λ j. j.lawful };
 
     fn problems(&self) -> u32 {
         1
@@ -55,16 +65,24 @@ impl Judge for Threshold {
 pub struct Late {
     pub root: Cell,
     pub point: Point,
-    pub ghost is_root: { IsRoot root },
+    ghost lawful: { IsLawful (late root point) },
+}
+
+impl Late {
+    #[tactic(auto, using(crate::proofs::SampleLaws::late_lawful))]
+    pub fn new(root: Cell, point: Point) -> Late
+        requires { IsRoot root }
+        ensures root { result.root ≡ root }
+        ensures point { result.point ≡ point }
+    {
+        Late { root, point }
+    }
 }
 
 impl Judge for Late {
-    ghost use Rattle.sample_judges.specs.Samples.{late};
-    ghost use Rattle.sample_judges.specs.SampleLaws.{late_lawful};
-
     ghost content = { λ j. late j.root j.point };
 
-    ghost lawful = { λ j. late_lawful j.root j.point j.is_root };
+    ghost lawful = { λ j. j.lawful };
 
     fn problems(&self) -> u32 {
         1
@@ -91,16 +109,24 @@ impl Judge for Late {
 pub struct Steps {
     pub root: Cell,
     pub point: Point,
-    pub ghost is_root: { IsRoot root },
+    ghost lawful: { IsLawful (steps root point) },
+}
+
+impl Steps {
+    #[tactic(auto, using(crate::proofs::SampleLaws::steps_lawful))]
+    pub fn new(root: Cell, point: Point) -> Steps
+        requires { IsRoot root }
+        ensures root { result.root ≡ root }
+        ensures point { result.point ≡ point }
+    {
+        Steps { root, point }
+    }
 }
 
 impl Judge for Steps {
-    ghost use Rattle.sample_judges.specs.Samples.{steps};
-    ghost use Rattle.sample_judges.specs.SampleLaws.{steps_lawful};
-
     ghost content = { λ j. steps j.root j.point };
 
-    ghost lawful = { λ j. steps_lawful j.root j.point j.is_root };
+    ghost lawful = { λ j. j.lawful };
 
     fn problems(&self) -> u32 {
         7

@@ -66,10 +66,7 @@ impl<J: Judge> Judge for Counting<'_, J> {
 
 #[test]
 fn every_task_that_is_judged_passes_the_gate(rt: HostRuntime) -> Result<(), Fail> {
-    let judge = Steps {
-        root: root_at(100_000, 0),
-        point: corner(),
-    };
+    let judge = Steps::new(root_at(100_000, 0), corner());
     for workers in [1, 2, 3, 16] {
         let counting = Counting::new(&judge);
         let gate = Counter::new();
@@ -85,10 +82,7 @@ fn every_task_that_is_judged_passes_the_gate(rt: HostRuntime) -> Result<(), Fail
 
 #[test]
 fn one_worker_judges_what_the_plain_search_does(rt: HostRuntime) -> Result<(), Fail> {
-    let judge = Steps {
-        root: root_at(100_000, 0),
-        point: corner(),
-    };
+    let judge = Steps::new(root_at(100_000, 0), corner());
     let counting = Counting::new(&judge);
     search_plain(rt.alloc(), &counting)?;
     let gate = Counter::new();
@@ -104,10 +98,7 @@ fn one_worker_judges_what_the_plain_search_does(rt: HostRuntime) -> Result<(), F
 fn a_refuted_leaf_raises_the_rank_and_what_it_covers_is_left_out(
     rt: HostRuntime,
 ) -> Result<(), Fail> {
-    let judge = Late {
-        root: root_at(100_000, 0),
-        point: corner(),
-    };
+    let judge = Late::new(root_at(100_000, 0), corner());
     let gate = Counter::new();
     let harvest = search(&rt, rt.alloc(), &judge, 1, &gate)?;
     assert_eq!(rt; harvest.refuted_rank(0), Some(720));
@@ -170,10 +161,7 @@ fn have_begun(rt: &impl Abort, gate: &Hold) {
 
 #[test]
 fn two_workers_begin_at_the_same_time(rt: HostRuntime) -> Result<(), Fail> {
-    let judge = Steps {
-        root: root_at(100_000, 0),
-        point: corner(),
-    };
+    let judge = Steps::new(root_at(100_000, 0), corner());
     let gate = Hold::before_turn(0);
     let harvest = search(&rt, rt.alloc(), &judge, 2, &gate)?;
     has_entries_by_steps(&rt, &judge, &harvest);
@@ -183,10 +171,7 @@ fn two_workers_begin_at_the_same_time(rt: HostRuntime) -> Result<(), Fail> {
 
 #[test]
 fn a_worker_that_has_no_task_steals_one(rt: HostRuntime) -> Result<(), Fail> {
-    let judge = Threshold {
-        root: root_at(100_000, 0),
-        point: corner(),
-    };
+    let judge = Threshold::new(root_at(100_000, 0), corner());
     let gate = Hold::before_turn(1);
     let harvest = search(&rt, rt.alloc(), &judge, 2, &gate)?;
     finds_the_open_cell(&rt, &judge, &harvest);

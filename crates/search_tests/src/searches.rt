@@ -52,10 +52,7 @@ pub(crate) fn finds_the_open_cell(rt: &impl Abort, judge: &Threshold, harvest: &
 
 #[test]
 fn every_search_finds_the_one_open_cell(rt: HostRuntime) -> Result<(), Fail> {
-    let judge = Threshold {
-        root: root_at(100_000, 0),
-        point: corner(),
-    };
+    let judge = Threshold::new(root_at(100_000, 0), corner());
     finds_the_open_cell(&rt, &judge, &search_plain(rt.alloc(), &judge)?);
     finds_the_open_cell(&rt, &judge, &search(&rt, rt.alloc(), &judge, 1, &OpenGate)?);
     finds_the_open_cell(&rt, &judge, &search(&rt, rt.alloc(), &judge, 2, &OpenGate)?);
@@ -83,10 +80,7 @@ pub(crate) fn has_entries_by_steps(rt: &impl Abort, judge: &Steps, harvest: &Har
 
 #[test]
 fn what_the_workers_find_is_put_together_problem_by_problem(rt: HostRuntime) -> Result<(), Fail> {
-    let judge = Steps {
-        root: root_at(100_000, 0),
-        point: corner(),
-    };
+    let judge = Steps::new(root_at(100_000, 0), corner());
     for workers in [1, 2, 3, 7, 16] {
         let harvest = search(&rt, rt.alloc(), &judge, workers, &OpenGate)?;
         has_entries_by_steps(&rt, &judge, &harvest);
@@ -101,13 +95,13 @@ fn the_ranks_alone_tell_what_is_refuted_and_what_is_left_open(rt: HostRuntime) {
         refuted: Some(99),
         left_open: Some(100),
     };
-    assert_eq!(rt; top_ranks(&Threshold { root, point }, 0), open);
+    assert_eq!(rt; top_ranks(&Threshold::new(root, point), 0), open);
     let never = TopRanks {
         refuted: Some(720),
         left_open: None,
     };
-    assert_eq!(rt; top_ranks(&Late { root, point }, 0), never);
-    let judge = Steps { root, point };
+    assert_eq!(rt; top_ranks(&Late::new(root, point), 0), never);
+    let judge = Steps::new(root, point);
     for k in 1..7u32 {
         assert_eq!(rt; top_ranks(&judge, k).refuted, Some(100 * k - 1));
     }
@@ -137,7 +131,7 @@ fn workers_find_ranks<R: Threads + Wait + Sync + Abort, J: Judge + Sync>(
 #[test]
 fn any_number_of_workers_finds_the_ranks_of_one_thread(rt: HostRuntime) -> Result<(), Fail> {
     let (root, point) = (root_at(100_000, 0), corner());
-    workers_find_ranks(&rt, rt.alloc(), &Threshold { root, point })?;
-    workers_find_ranks(&rt, rt.alloc(), &Late { root, point })?;
-    workers_find_ranks(&rt, rt.alloc(), &Steps { root, point })
+    workers_find_ranks(&rt, rt.alloc(), &Threshold::new(root, point))?;
+    workers_find_ranks(&rt, rt.alloc(), &Late::new(root, point))?;
+    workers_find_ranks(&rt, rt.alloc(), &Steps::new(root, point))
 }

@@ -12,7 +12,7 @@ use Rattle.cell_split.proofs.Every.{Every-append, Every-weaker}
 use Rattle.days_sky.specs.Days.{rows_of_day}
 use Rattle.days_sky.specs.declared.day.Day as days_sky
 use Rattle.days_sky.proofs.DayLemmas.{whole_days}
-use Rattle.district_set.specs.Lawful.{each}
+use Rattle.district_set.proofs.Lawful.{each}
 use Rattle.district_set.specs.Sets.{AreAlike, IsAlike, judge_at, set_content}
 use Rattle.district_set.proofs.SetLemmas.{own_trees}
 use Rattle.method_table.specs.Row.{Row}

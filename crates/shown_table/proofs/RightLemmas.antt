@@ -17,7 +17,7 @@ use Rattle.cell_split.specs.Judges.{Content, IsLawful}
 use Rattle.cell_split.specs.Verdicts.{is_open}
 use Rattle.cell_split.proofs.Every.{Every, Every-weaker, somewhere_from_Any}
 use Rattle.cell_judge.specs.EntryLaws.{LiesInRoot, TellsTruth}
-use Rattle.cell_judge.specs.Lawful.{skies_are_lawful}
+use Rattle.cell_judge.proofs.Lawful.{skies_are_lawful}
 use Rattle.cell_judge.specs.RightEntries.{IsRight}
 use Rattle.cell_judge.specs.Scenes.{IsTrueVerdict, Scene}
 use Rattle.cell_judge.specs.Skies.{row_at, sky_content}
@@ -167,7 +167,7 @@ fit_columns sky day faultless k known line e shown =
     let many : length (day_of day).rows ≡ 7 = length-map day.problems row_of ∙ seven in
     let scene = scene_of sky.sun sky.district (row_at (day_of day).rows k) in
     let inside : k < length (day_of day).rows = omega (arith, known, many) in
-    line_is_right sky.sun sky.district sky.root (day_of day).rows k faultless sky.is_root
+    line_is_right sky.sun sky.district sky.root (day_of day).rows k faultless sky.lawful.root
     (districts_lie_in_roots_over_them scene sky.root faultless sky.is_over) inside (problems_are_rows day.problems day.limits k inside) _ _ line e shown
 
 pub fit_night : (sky : Sky) (number : ℤ) (night : Night) → first_fault sky.district ≡ None →
@@ -178,7 +178,7 @@ fit_night sky number night faultless k known line e shown =
     let rows = map row_of night.problems in
     let many : length rows ≡ 2 = length-map night.problems row_of ∙ two in
     let inside : k < length rows = omega (arith, known, many) in
-    sun_is_right sky.sun sky.district sky.root rows k faultless sky.is_root
+    sun_is_right sky.sun sky.district sky.root rows k faultless sky.lawful.root
     (districts_lie_in_roots_over_them (scene_of sky.sun sky.district (row_at rows k)) sky.root faultless sky.is_over) known
     (problems_are_rows night.problems night.limits k inside) _ _ line e shown
 

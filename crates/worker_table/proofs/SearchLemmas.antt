@@ -14,6 +14,6 @@ use Rattle.order_table.specs.Trees.{entry_at}
 pub own_entry : (sky : Sky) (days : List Day) (i : ℕ) (rows : List Row) (k : ℕ) → i < length days → get_or (map rows_of_day days) i rows ≡ rows → k < 7 →
     entry_at (days_content sky.sun sky.district (map rows_of_day days) sky.root) (7 * i + k) ≡ entry_at (sky_content sky.sun sky.district rows sky.root) k
 own_entry sky days i rows k within own known =
-    (own_trees sky.sun sky.district sky.root sky.is_root (map rows_of_day days)
+    (own_trees sky.sun sky.district sky.root sky.lawful.root (map rows_of_day days)
     (All-from_recursion (λ (l : List Row). length l ≡ 7) (map rows_of_day days) (whole_days days)) i rows
     (subst (λ n. i < n) (sym (length-map days rows_of_day)) within) own k known).same_entry

@@ -1,4 +1,4 @@
-use Rattle.cell_judge.specs.Lawful.{skies_are_lawful}
+use Rattle.cell_judge.proofs.Lawful.{skies_are_lawful}
 use Rattle.cell_judge.proofs.laws.skies_are_lawful.Goals as goal
 
 pub returns : goal.returns

@@ -14,5 +14,5 @@ pub returns : goal.returns
 returns c =
     let sky = c.args.judge.now.sky.now in
     let days = c.args.judge.now.days.now in
-    own_settled_if sky.sun sky.district sky.root sky.is_root (map rows_of_day days) (whole_days days) c.args.i (rows_of c.args.day.now)
+    own_settled_if sky.sun sky.district sky.root sky.lawful.root (map rows_of_day days) (whole_days days) c.args.i (rows_of c.args.day.now)
     c.requires.day.inside c.requires.day.same c.args.k c.requires.column c.settle.result c.settle.ensures.settled

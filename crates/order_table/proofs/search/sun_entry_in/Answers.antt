@@ -14,5 +14,5 @@ returns-clause-value c =
     let content : Sky → Content = λ s. sky_content s.sun s.district (map row_of s.problems) s.root in
     c.entry_at.ensures.value ∙ ap (λ (n : ℕ). entry_at (first_problems n (content c.new.result.judge.now)) c.args.which) c.new.ensures.count
     ∙ ap (λ (s : Sky). entry_at (first_problems 2 (content s)) c.args.which) c.new.ensures.judge
-    ∙ sun_entry_is sky.sun sky.district sky.root (map row_of c.args.night.now.problems) (map row_of sky.problems) c.args.which sky.is_root
+    ∙ sun_entry_is sky.sun sky.district sky.root (map row_of c.args.night.now.problems) (map row_of sky.problems) c.args.which sky.lawful.root
     c.requires.night c.requires.which

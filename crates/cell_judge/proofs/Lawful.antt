@@ -1,24 +1,22 @@
--- The judge of the sky keeps the law of judges. An `impl` takes the proof of a law from specs alone, so it stands here.
-use Rattle.std.specs.Prelude.{◌≡◌, Bool, true, false, if◌then◌else◌, List, Option, Some, None, refl}
+-- The judge of the sky keeps the law of judges.
+use Rattle.std.specs.Prelude.{◌≡◌, Bool, true, false, if◌then◌else◌, Option, Some, None, refl}
 use Rattle.std.proofs.lemmas.Bool.{false≢true}
 use Rattle.fixed_interval.specs.Grid.{Range}
 use Rattle.solar_terms.specs.Sun.{SunTerms}
-use Rattle.sun_choice.specs.declared.choice.SunChoice.{SunChoice}
 use Rattle.chosen_sun.specs.Suns.{grid_sun_of}
 use Rattle.method_table.specs.Row.{Row}
 use Rattle.plane_edges.specs.declared.points.Point.{Point}
 use Rattle.plane_edges.specs.Plane.{Place}
-use Rattle.ring_survey.specs.Polygons.{Polygon}
 use Rattle.region.specs.Named.{named}
 use Rattle.cell_split.specs.declared.cell.Cell.{Cell}
 use Rattle.cell_split.specs.declared.verdict.Verdict.{Verdict}
 use Rattle.cell_split.specs.declared.verdict.Verdict.TheVariants.{Proved, Refuted, Split, Open}
-use Rattle.cell_split.specs.Cells.{IsRoot, is_smallest}
-use Rattle.cell_split.specs.Judges.{IsLawful}
+use Rattle.cell_split.specs.Cells.{is_smallest}
 use Rattle.cell_split.specs.Laws.{box_of}
 use Rattle.cell_split.specs.Verdicts.{is_open, is_split}
 use Rattle.cell_judge.specs.Points.{point_of}
-use Rattle.cell_judge.specs.Skies.{grid_value, minutes_at, places_at, row_at, shows_failed, shows_held, sky_content, verdict_at, verdict_by, verdict_on, verdict_with}
+use Rattle.cell_judge.specs.Skies.{grid_value, minutes_at, places_at, row_at, shows_failed, shows_held, verdict_at, verdict_by, verdict_on, verdict_with}
+use Rattle.cell_judge.specs.SkyLaws.{SkiesAreLawful}
 
 abbrev by_tests : Bool → Bool → Bool → Point → Verdict
 by_tests held failed smallest p =
@@ -53,9 +51,6 @@ opens grid row cell None e = absurd (false≢true e)
 opens grid row cell (Some p) e =
     let value = grid_value grid row.kind (minutes_at row cell) (places_at cell) in
     open_smallest (shows_held row.kind value) (shows_failed row.kind value) (is_smallest cell) (point_of p) e
-
-abbrev pub SkiesAreLawful : Type 0
-SkiesAreLawful = (sun : SunChoice) (polygons : List Polygon) (rows : List Row) (root : Cell) → IsRoot root → IsLawful (sky_content sun polygons rows root)
 
 pub skies_are_lawful : SkiesAreLawful
 unfolding verdict_on

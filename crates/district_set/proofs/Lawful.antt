@@ -1,4 +1,4 @@
--- A set of lawful judges is lawful. An `impl` takes the proof of a law from specs alone, so it stands here.
+-- A set of lawful judges is lawful.
 use Rattle.std.specs.Prelude.{◌/◌, ◌%◌, ◌<◌, ◌≤◌, List, [], ◌∷◌, length, map, refl}
 use Rattle.std.proofs.Common.{arith, sym}
 use Rattle.std.specs.List.{AllByRecursion as Every}

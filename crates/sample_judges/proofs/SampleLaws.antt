@@ -1,4 +1,4 @@
--- The sample judges keep the law of judges. An `impl` takes the proof of a law from specs alone, so it stands here.
+-- The sample judges keep the law of judges.
 use Rattle.std.proofs.Common.{◌≡◌, ℕ, ◌-◌, ◌*◌, Bool, true, false, eqb, ltb, ◌&&◌, not, refl, arith}
 use Rattle.std.specs.Prelude.{nat_le, nat_lt}
 use Rattle.std.proofs.lemmas.Bool.{false≢true}

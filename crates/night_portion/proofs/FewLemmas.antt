@@ -1,4 +1,4 @@
--- A lawful judge's first problems are those of a lawful judge. An `impl` takes the proof of a law from specs alone, so it stands here.
+-- A lawful judge's first problems are those of a lawful judge.
 use Rattle.std.specs.Prelude.{◌≤◌, ℕ, refl}
 use Rattle.std.proofs.Common.{arith}
 use Rattle.cell_split.specs.Judges.{Content, IsLawful}
