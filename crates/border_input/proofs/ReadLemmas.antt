@@ -3,7 +3,7 @@ use Rattle.std.proofs.Common.{◌≡◌, ◌∙◌, ap, sym, refl, ℕ, List, �
 use Rattle.exact_json.proofs.Readings.{every_text_is_read, readings_agree}
 use Rattle.exact_json.specs.Grammar.{IsJsonWithin}
 use Rattle.exact_json.specs.Read.{IsFaultOf}
-use Rattle.exact_json.specs.Tree.{Tree}
+use Rattle.json_value.specs.Tree.{Tree}
 use Rattle.exact_json.specs.declared.fault.JsonFault.{JsonFault}
 use Rattle.exact_json.specs.declared.fault.JsonFault.TheVariants as json
 use Rattle.border_input.specs.Gives.{Gives}

@@ -1,7 +1,7 @@
 -- The order and the border of a plain tree, or the first refusal.
 use Rattle.std.specs.Prelude.{List, Option, Some, None, Result, Ok, Err, codes}
 use Rattle.std.specs.Option.{ok_or}
-use Rattle.exact_json.specs.Tree.{Tree, Entry}
+use Rattle.json_value.specs.Tree.{Tree, Entry}
 use Rattle.ring_survey.specs.Polygons.{Polygon}
 use Rattle.ring_survey.specs.declared.faults.RegionFault.{RegionFault}
 use Rattle.geo_json.specs.Geometry.{geometry_of}

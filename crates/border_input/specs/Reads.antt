@@ -1,7 +1,7 @@
 -- What reading bytes as an order with a border answers: both of the JSON text that they are, or the first refusal.
 use Rattle.std.specs.Prelude.{◌≡◌, ℕ, List, Result, Ok, Err}
 use Rattle.exact_json.specs.Readings.{Reading}
-use Rattle.exact_json.specs.Tree.{Tree}
+use Rattle.json_value.specs.Tree.{Tree}
 use Rattle.exact_json.specs.declared.fault.JsonFault.{JsonFault}
 use Rattle.exact_json.specs.declared.fault.JsonFault.TheVariants.{NoMemory as JsonNoMemory}
 use Rattle.order_reader.specs.declared.fault.OrderFault.TheVariants.{Json}

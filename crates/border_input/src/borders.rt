@@ -1,6 +1,6 @@
 // The border of a value of JSON.
 ghost use Rattle.std.specs.Prelude.{codes};
-ghost use Rattle.exact_json.specs.View.{entries_of, tree_of};
+ghost use Rattle.json_value.specs.View.{entries_of, tree_of};
 ghost use Rattle.ring_survey.specs.Vectors.{polygons_in};
 ghost use Rattle.border_input.specs.Gives.{Gives};
 ghost use Rattle.border_input.specs.Reading.{border_in, border_of, border_value};

@@ -1,6 +1,6 @@
 // An order and a border, read from an object of JSON.
 ghost use Rattle.std.specs.Prelude.{◌≡◌, ◌≢◌, ◌⊎◌};
-ghost use Rattle.exact_json.specs.View.{entries_of, tree_of};
+ghost use Rattle.json_value.specs.View.{entries_of, tree_of};
 ghost use Rattle.order_rule.specs.Asked.{asked_of};
 ghost use Rattle.border_input.specs.Gives.{Gives};
 ghost use Rattle.border_input.specs.Reading.{order_part, order_value, request_in, request_of};

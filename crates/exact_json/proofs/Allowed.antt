@@ -4,8 +4,9 @@ use Rattle.std.proofs.lemmas.Bool.{leb-true, leb-false, le-leb}
 use Rattle.exact_json.specs.Advance.{Passes}
 use Rattle.exact_json.specs.Grammar.{IsJsonBy}
 use Rattle.exact_json.specs.Limits.{Limits, depth_limit, number_limit_before}
-use Rattle.exact_json.specs.Machine.{State, start, mark, value, first_item, first_name, name, colon, after_item, after_member, word, numeral, characters, done, step, run_within, is_within}
-use Rattle.exact_json.specs.Tree.{Tree}
+use Rattle.json_value.specs.Machine.{State, start, mark, value, first_item, first_name, name, colon, after_item, after_member, word, numeral, characters, done, step}
+use Rattle.exact_json.specs.Runs.{run_within, is_within}
+use Rattle.json_value.specs.Tree.{Tree}
 use Rattle.exact_json.specs.declared.fault.JsonFault.TheVariants.{TooDeep, LongNumber}
 use Rattle.exact_json.proofs.Ends.{FitsEnd, finish}
 use Rattle.exact_json.proofs.Kept.{first_step, within-run, run-sound}

@@ -4,8 +4,8 @@ use Rattle.std.proofs.lemmas.Bool.{eqb-true}
 use Rattle.json_character.specs.Ascii as ascii
 use Rattle.json_character.specs.Ascii.{is_blank}
 use Rattle.exact_json.specs.Limits.{Limits}
-use Rattle.exact_json.specs.Machine.{Frame, in_list, in_table, State, value, name, after_item, after_member, done, ended, step_ended}
-use Rattle.exact_json.specs.Tree.{Tree, list, table, Trees, item, no_item, Pairs, pair, no_pair, Entry, items_before, pairs_before, list_of, table_of}
+use Rattle.json_value.specs.Machine.{Frame, in_list, in_table, State, value, name, after_item, after_member, done, ended, step_ended}
+use Rattle.json_value.specs.Tree.{Tree, list, table, Trees, item, no_item, Pairs, pair, no_pair, Entry, items_before, pairs_before, list_of, table_of}
 use Rattle.exact_json.proofs.Left.{Closes, AfterItem, AfterMember, Completes, Goes, Comes}
 
 -- one item or pair more before the others

@@ -2,11 +2,12 @@
 use Rattle.std.proofs.Common.{◌≡◌, ℕ, ◌+◌, ◌≤◌, true, false, List, [], ◌∷◌, ◌++◌, length, refl, inl, inr, arith}
 use Rattle.json_character.specs.Ascii as ascii
 use Rattle.exact_json.specs.Limits.{Limits}
-use Rattle.exact_json.specs.Machine.{Frame, Numeral, Phase, after_minus, after_zero, in_whole, after_point, in_fraction, after_letter, after_sign, in_exponent, Role, State, start, mark, value, first_item, first_name, name, colon, after_item, after_member, word, numeral, characters, done, Within, plain, escape, unit, high, high_escape, low, tail}
+use Rattle.json_value.specs.Machine.{Frame, Role, State, start, mark, value, first_item, first_name, name, colon, after_item, after_member, word, numeral, characters, done}
+use Rattle.exact_json.proofs.States.{Numeral, Phase, after_minus, after_zero, in_whole, after_point, in_fraction, after_letter, after_sign, in_exponent, Within, plain, escape, unit, high, high_escape, low, tail}
 use Rattle.exact_json.specs.Grammar.{Unmarked}
 use Rattle.json_character.specs.Pieces.{Is, Byte}
 use Rattle.std.specs.Str.{encode_utf8_all}
-use Rattle.exact_json.specs.Tree.{Tree, null, number, no_item, no_pair, list_of, table_of}
+use Rattle.json_value.specs.Tree.{Tree, null, number, no_item, no_pair, list_of, table_of}
 use Rattle.json_character.specs.Within.{is_begun}
 use Rattle.exact_decimal.specs.declared.decimal.Decimal.{Decimal}
 use Rattle.exact_json.proofs.Finish.{Ending, close, nulled, null_value, name_value, text_end, word_front}

@@ -6,10 +6,12 @@ use lib.Utf8.{next}
 use Rattle.json_character.specs.Ascii as ascii
 use Rattle.exact_json.specs.Grammar.{Minus, Fraction, Exponent, Value, IsWhole, IsJsonBy, IsJson, IsJsonWithin, BeginsJson, StaysWithin}
 use Rattle.exact_json.specs.Limits.{Limits, no_limits, limits_before, depth_limit, number_limit_before}
-use Rattle.exact_json.specs.Machine.{Frame, in_list, in_table, Numeral, Phase, after_minus, after_zero, in_whole, after_point, in_fraction, after_letter, after_sign, in_exponent, Role, State, start, mark, value, first_item, first_name, name, colon, after_item, after_member, word, numeral, characters, done, ended, run, run_within, result, result_ended, is_whole, decimal_so_far, Within, plain, escape, unit, high, high_escape, low, tail}
+use Rattle.json_value.specs.Machine.{Frame, in_list, in_table, Role, State, start, mark, value, first_item, first_name, name, colon, after_item, after_member, word, numeral, characters, done, ended, result, result_ended, is_whole, decimal_so_far}
+use Rattle.exact_json.specs.Runs.{run, run_within}
+use Rattle.exact_json.proofs.States.{Numeral, Phase, after_minus, after_zero, in_whole, after_point, in_fraction, after_letter, after_sign, in_exponent, Within, plain, escape, unit, high, high_escape, low, tail}
 use Rattle.json_character.specs.Pieces.{Is, Byte, Word, Digits}
 use Rattle.json_character.specs.Texts.{Characters}
-use Rattle.exact_json.specs.Tree.{Tree, null, flag, number, text, list, table, no_item, item, no_pair, pair}
+use Rattle.json_value.specs.Tree.{Tree, null, flag, number, text, list, table, no_item, item, no_pair, pair}
 use Rattle.exact_decimal.specs.declared.decimal.Decimal.{Decimal}
 use Rattle.exact_json.proofs.Ends.{finish}
 use Rattle.exact_json.proofs.Kept.{run_goes_within, within-run, within-last, run-sound, all_fit_within, all_fit_none, fits_within, fits_end_none, fits_end_within, short_number}

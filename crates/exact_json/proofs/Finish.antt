@@ -3,9 +3,9 @@ use Rattle.std.proofs.Common.{ℕ, suc, List, [], ◌∷◌, ◌++◌, length, r
 use Rattle.json_character.specs.Ascii as ascii
 use Rattle.exact_json.specs.Grammar.{Value}
 use Rattle.exact_json.specs.Limits.{Limits}
-use Rattle.exact_json.specs.Machine.{Frame, in_list, in_table, Role, as_value, as_name}
+use Rattle.json_value.specs.Machine.{Frame, in_list, in_table, Role, as_value, as_name}
 use Rattle.json_character.specs.Pieces.{Word, Blanks}
-use Rattle.exact_json.specs.Tree.{Tree, null, text, no_item, no_pair, Entry, list_of, table_of}
+use Rattle.json_value.specs.Tree.{Tree, null, text, no_item, no_pair, Entry, list_of, table_of}
 use Rattle.exact_json.proofs.Left.{Closes, AfterName, ClosesText}
 
 -- Brackets and braces for all that is open.

@@ -3,9 +3,11 @@ use Rattle.std.proofs.Common.{◌≡◌, ℕ, ◌+◌, ◌-◌, ◌≤◌, Bool,
 use Rattle.std.proofs.lemmas.Bool.{leb-true, le-leb}
 use Rattle.exact_json.specs.Grammar.{Fraction, Exponent, Sign}
 use Rattle.exact_json.specs.Limits.{no_limits, limits_before}
-use Rattle.exact_json.specs.Machine.{Numeral, Phase, after_minus, after_zero, in_whole, after_point, in_fraction, after_letter, after_sign, in_exponent, State, start, mark, value, first_item, first_name, name, colon, after_item, after_member, word, numeral, characters, done, step, run, run_within, is_within}
+use Rattle.json_value.specs.Machine.{State, start, mark, value, first_item, first_name, name, colon, after_item, after_member, word, numeral, characters, done, step}
+use Rattle.exact_json.specs.Runs.{run, run_within, is_within}
+use Rattle.exact_json.proofs.States.{Numeral, Phase, after_minus, after_zero, in_whole, after_point, in_fraction, after_letter, after_sign, in_exponent}
 use Rattle.json_character.specs.Pieces.{Is, Digits}
-use Rattle.exact_json.specs.Tree.{Tree}
+use Rattle.json_value.specs.Tree.{Tree}
 use Rattle.exact_decimal.specs.declared.decimal.Decimal.{Decimal}
 use Rattle.exact_json.proofs.Ends.{FitsEnd}
 use Rattle.exact_json.proofs.Left.{Completes, NumeralTo}

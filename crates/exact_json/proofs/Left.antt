@@ -7,10 +7,11 @@ use Rattle.exact_decimal.specs.Decimals.{held, signed, significant}
 use Rattle.exact_json.specs.Grammar.{Value, Items, MoreItems, Members, MoreMembers, Fraction, Exponent, Sign, IsWhole, IsJsonBy, Unmarked}
 use Rattle.exact_json.specs.Limits.{Limits}
 use Rattle.json_character.proofs.CharacterRests.{CharacterRest}
-use Rattle.exact_json.specs.Machine.{Frame, in_list, in_table, Numeral, Phase, after_minus, after_zero, in_whole, after_point, in_fraction, after_letter, after_sign, in_exponent, Role, as_value, as_name, State, start, mark, value, first_item, first_name, name, colon, after_item, after_member, word, numeral, characters, done, Within, plain}
+use Rattle.json_value.specs.Machine.{Frame, in_list, in_table, Role, as_value, as_name, State, start, mark, value, first_item, first_name, name, colon, after_item, after_member, word, numeral, characters, done}
+use Rattle.exact_json.proofs.States.{Numeral, Phase, after_minus, after_zero, in_whole, after_point, in_fraction, after_letter, after_sign, in_exponent, Within, plain}
 use Rattle.json_character.specs.Pieces.{Is, AtEnd, Byte, Word, Digits, Blanks}
 use Rattle.json_character.specs.Texts.{Quoted, Characters}
-use Rattle.exact_json.specs.Tree.{Tree, list, table, text, number, Trees, Pairs, Entry, items_before, pairs_before}
+use Rattle.json_value.specs.Tree.{Tree, list, table, text, number, Trees, Pairs, Entry, items_before, pairs_before}
 use Rattle.exact_decimal.specs.declared.decimal.Decimal.{Decimal}
 
 -- after the value v within the frames

@@ -1,3 +1,4 @@
+pub mod States
 pub mod Left
 pub mod Ended
 pub mod NumberSteps
@@ -13,4 +14,3 @@ pub mod Faults
 pub mod ReaderRuns
 pub mod Allowed
 pub mod Readings
-pub mod Oks

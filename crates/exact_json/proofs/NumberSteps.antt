@@ -6,9 +6,10 @@ use Rattle.json_character.specs.Ascii as ascii
 use Rattle.json_character.specs.Ascii.{is_digit, is_exponent_letter}
 use Rattle.exact_json.specs.Grammar.{Fraction, Exponent, IsWhole}
 use Rattle.exact_json.specs.Limits.{Limits}
-use Rattle.exact_json.specs.Machine.{Frame, Numeral, Phase, after_minus, after_zero, in_whole, after_point, in_fraction, after_letter, after_sign, in_exponent, State, numeral, counted, with_whole, with_fraction, with_exponent, with_minus, decimal_so_far, step_first_digit, step_end, step_letter, step_point, step_exponent, step_numeral}
+use Rattle.json_value.specs.Machine.{Frame, State, numeral, counted, with_whole, with_fraction, with_exponent, with_minus, decimal_so_far, step_first_digit, step_end, step_letter, step_point, step_exponent, step_numeral}
+use Rattle.exact_json.proofs.States.{Numeral, Phase, after_minus, after_zero, in_whole, after_point, in_fraction, after_letter, after_sign, in_exponent}
 use Rattle.json_character.specs.Pieces.{Is, Digits}
-use Rattle.exact_json.specs.Tree.{Tree, number}
+use Rattle.json_value.specs.Tree.{Tree, number}
 use Rattle.exact_decimal.specs.declared.decimal.Decimal.{Decimal}
 use Rattle.exact_json.proofs.Ended.{comes_cond, comes_some, comes_none, goes_true, goes_false, goes-ended, comes-ended}
 use Rattle.exact_json.proofs.Left.{Closes, Completes, Goes, Comes, finished, NumeralTo}

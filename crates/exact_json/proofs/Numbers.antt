@@ -7,8 +7,9 @@ use Rattle.json_character.specs.Ascii.{is_blank, is_digit, is_exponent_letter}
 use Rattle.exact_decimal.specs.Digits.{with_digit}
 use Rattle.exact_decimal.specs.Decimals.{held, signed, significant}
 use Rattle.exact_json.specs.Limits.{Limits}
-use Rattle.exact_json.specs.Machine.{Frame, in_list, in_table, Numeral, with_whole, with_fraction, with_exponent, with_minus, decimal_so_far}
-use Rattle.exact_json.specs.Tree.{Tree, no_item, item, no_pair, pair}
+use Rattle.json_value.specs.Machine.{Frame, in_list, in_table, with_whole, with_fraction, with_exponent, with_minus, decimal_so_far}
+use Rattle.exact_json.proofs.States.{Numeral}
+use Rattle.json_value.specs.Tree.{Tree, no_item, item, no_pair, pair}
 use Rattle.exact_decimal.specs.declared.decimal.Decimal.{Decimal}
 use Rattle.exact_json.proofs.Left.{Closes, joined, finished}
 

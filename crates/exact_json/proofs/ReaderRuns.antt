@@ -3,16 +3,17 @@ use Rattle.std.proofs.Common.{◌≡◌, ℕ, zero, suc, ◌+◌, ◌<◌, ◌�
 use Rattle.std.proofs.lemmas.List.{take_more, length-take-le}
 use Rattle.std.proofs.Math.Seq.{take-length}
 use Rattle.std.proofs.lemmas.Bool.{leb-true, leb-false}
-use Rattle.exact_json.specs.Advance.{IsSound, Goes, Passes, Stops}
+use Rattle.exact_json.specs.Advance.{IsShort, IsSound, Goes, Passes, Stops}
 use Rattle.exact_json.specs.Limits.{number_limit_before}
 use Rattle.exact_json.specs.Grammar.{IsJsonBy, IsJsonWithin, BeginsJson}
-use Rattle.exact_json.specs.Machine.{State, start, mark, value, first_item, first_name, name, colon, after_item, after_member, word, numeral, characters, done, step, run, run_within, is_within, result}
+use Rattle.json_value.specs.Machine.{State, start, mark, value, first_item, first_name, name, colon, after_item, after_member, word, numeral, characters, done, step, result}
+use Rattle.exact_json.specs.Runs.{run, run_within, is_within}
 use Rattle.exact_json.specs.Read.{AllGood, IsNotJson, IsTooDeep, IsLongNumber, IsFaultOf}
-use Rattle.exact_json.specs.Seen.{seen_with, IsReady, IsShort}
-use Rattle.exact_json.specs.Tree.{Tree}
-use Rattle.exact_json.specs.declared.machine.Machine.{Machine}
-use Rattle.exact_json.specs.declared.machine.Next.{Next}
-use Rattle.exact_json.specs.declared.machine.Next.TheVariants.{Start, Mark, Value, FirstItem, FirstName, Name, Colon, AfterItem, AfterMember, Word, Number, Text, NameText, Done}
+use Rattle.json_value.specs.Seen.{seen_with, IsReady}
+use Rattle.json_value.specs.Tree.{Tree}
+use Rattle.json_value.specs.declared.machine.Machine.{Machine}
+use Rattle.json_value.specs.declared.machine.Next.{Next}
+use Rattle.json_value.specs.declared.machine.Next.TheVariants.{Start, Mark, Value, FirstItem, FirstName, Name, Colon, AfterItem, AfterMember, Word, Number, Text, NameText, Done}
 use Rattle.exact_json.specs.declared.fault.JsonFault.{JsonFault}
 use Rattle.exact_json.specs.declared.fault.JsonFault.TheVariants.{NotJson, TooDeep, LongNumber, NoMemory}
 use Rattle.exact_json.proofs.Faults.{accepts, accepts_any, stays, begins, begins_none, deep_item, deep_name, long_number}

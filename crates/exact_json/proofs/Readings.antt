@@ -5,10 +5,11 @@ use Rattle.std.proofs.lemmas.Bool.{cases_lt}
 use Rattle.exact_json.specs.Advance.{Passes, Stops}
 use Rattle.exact_json.specs.Grammar.{IsJson, IsJsonBy, BeginsJson}
 use Rattle.exact_json.specs.Limits.{no_limits, depth_limit, number_limit_before}
-use Rattle.exact_json.specs.Machine.{State, start, mark, value, first_item, first_name, name, colon, after_item, after_member, word, numeral, characters, done, step, run_within, result, is_within}
+use Rattle.json_value.specs.Machine.{State, start, mark, value, first_item, first_name, name, colon, after_item, after_member, word, numeral, characters, done, step, result}
+use Rattle.exact_json.specs.Runs.{run_within, is_within}
 use Rattle.exact_json.specs.Read.{AllGood, IsNotJson, IsTooDeep, IsLongNumber, IsFaultOf}
 use Rattle.exact_json.specs.Readings.{Reading, ReadingsAgree, EveryTextIsRead}
-use Rattle.exact_json.specs.Tree.{Tree}
+use Rattle.json_value.specs.Tree.{Tree}
 use Rattle.exact_json.specs.declared.fault.JsonFault.{JsonFault}
 use Rattle.exact_json.specs.declared.fault.JsonFault.TheVariants.{NotJson, TooDeep, LongNumber, NoMemory}
 use Rattle.exact_json.proofs.Allowed.{depth_allows, number_allows, completes, too_deep, too_long}

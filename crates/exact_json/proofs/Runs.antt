@@ -1,8 +1,9 @@
 -- Whole runs of the machine: what it accepts, and what the bytes so far begin.
 use Rattle.std.proofs.Common.{◌≡◌, ℕ, List, [], ◌∷◌, ◌++◌, Option, Some, None, option_and_then, refl, sym, ap, subst, ◌∙◌}
 use Rattle.exact_json.specs.Limits.{Limits}
-use Rattle.exact_json.specs.Machine.{State, step, run}
-use Rattle.exact_json.specs.Tree.{Tree}
+use Rattle.json_value.specs.Machine.{State, step}
+use Rattle.exact_json.specs.Runs.{run}
+use Rattle.json_value.specs.Tree.{Tree}
 use Rattle.exact_json.proofs.Left.{Completes}
 use Rattle.exact_json.proofs.Steps.{Fits, goes-step, comes-step}
 use Rattle.exact_json.proofs.Sound.{IsSound, formed, step-sound}

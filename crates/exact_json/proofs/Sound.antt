@@ -4,8 +4,9 @@ use Rattle.json_character.specs.Ascii as ascii
 use Rattle.json_character.specs.Ascii.{is_blank, is_digit, is_exponent_letter}
 use Rattle.exact_json.specs.Limits.{Limits}
 pub use Rattle.exact_json.specs.Advance.{IsSound}
-use Rattle.exact_json.specs.Machine.{Frame, in_list, in_table, Numeral, Phase, after_minus, after_zero, in_whole, after_point, in_fraction, after_letter, after_sign, in_exponent, Role, as_value, as_name, State, start, mark, value, first_item, first_name, name, colon, after_item, after_member, word, numeral, characters, done, ended, ended_text, step, step_ended, step_value, step_begin, step_name, step_numeral, step_letter, step_point, step_exponent, step_characters, step_outcome, decimal_so_far, Within, plain, escape, unit, high, high_escape, low, tail, Outcome, goes_on, ends, refused}
-use Rattle.exact_json.specs.Tree.{Tree, number, text, Entry}
+use Rattle.json_value.specs.Machine.{Frame, in_list, in_table, Role, as_value, as_name, State, start, mark, value, first_item, first_name, name, colon, after_item, after_member, word, numeral, characters, done, ended, ended_text, step, step_ended, step_value, step_begin, step_name, step_numeral, step_letter, step_point, step_exponent, step_characters, step_outcome, decimal_so_far}
+use Rattle.exact_json.proofs.States.{Numeral, Phase, after_minus, after_zero, in_whole, after_point, in_fraction, after_letter, after_sign, in_exponent, Within, plain, escape, unit, high, high_escape, low, tail, Outcome, goes_on, ends, refused}
+use Rattle.json_value.specs.Tree.{Tree, number, text, Entry}
 use Rattle.json_character.specs.Within.{after_byte, is_begun}
 use Rattle.json_character.proofs.CharacterSteps.{LeadsBegun, leads_begun}
 use Rattle.exact_json.proofs.Steps.{IsFormed}

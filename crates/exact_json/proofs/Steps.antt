@@ -7,10 +7,11 @@ use Rattle.json_character.specs.Ascii.{is_blank, is_digit}
 use Rattle.exact_decimal.specs.Decimals.{significant, held, signed}
 use Rattle.exact_json.specs.Grammar.{Value, Parts, decimal_of_parts, IsWhole, Fraction, Exponent, Minus, Unmarked}
 use Rattle.exact_json.specs.Limits.{Limits}
-use Rattle.exact_json.specs.Machine.{Frame, in_list, in_table, after_minus, State, start, mark, value, first_item, first_name, name, colon, after_item, after_member, word, numeral, characters, done, as_value, as_name, ended, no_numeral, step_ended, step_first_digit, step_begin, step_name, step_value, step, plain}
+use Rattle.json_value.specs.Machine.{Frame, in_list, in_table, State, start, mark, value, first_item, first_name, name, colon, after_item, after_member, word, numeral, characters, done, as_value, as_name, ended, no_numeral, step_ended, step_first_digit, step_begin, step_name, step_value, step}
+use Rattle.exact_json.proofs.States.{after_minus, plain}
 use Rattle.json_character.specs.Pieces.{Is, Digits, Blanks}
 use Rattle.json_character.specs.Texts.{Quoted}
-use Rattle.exact_json.specs.Tree.{Tree, null, flag, number, text, list, table, item, no_item, pair, no_pair, Entry, list_of, table_of}
+use Rattle.json_value.specs.Tree.{Tree, null, flag, number, text, list, table, item, no_item, pair, no_pair, Entry, list_of, table_of}
 use Rattle.json_character.specs.Within.{is_begun}
 use Rattle.exact_decimal.specs.declared.decimal.Decimal.{Decimal}
 use Rattle.exact_json.proofs.Ended.{comes_cond, comes_some, comes_none, goes_true, goes_false, ended-Closes, Closes-ended, goes-ended, comes-ended, goes-after_item, comes-after_item, goes-after_member, comes-after_member}

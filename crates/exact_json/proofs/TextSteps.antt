@@ -6,10 +6,11 @@ use Rattle.std.specs.Str.{encode_utf8_all}
 use lib.Utf8.{scalar}
 use Rattle.json_character.specs.Ascii as ascii
 use Rattle.exact_json.specs.Limits.{Limits}
-use Rattle.exact_json.specs.Machine.{Frame, Role, as_value, as_name, characters, ended_text, step_outcome, step_characters, Within, plain, escape, unit, high, high_escape, low, tail, Outcome, goes_on, ends, refused}
+use Rattle.json_value.specs.Machine.{Frame, Role, as_value, as_name, characters, ended_text, step_outcome, step_characters}
+use Rattle.exact_json.proofs.States.{Within, plain, escape, unit, high, high_escape, low, tail, Outcome, goes_on, ends, refused}
 use Rattle.json_character.specs.Pieces.{Is, Byte}
 use Rattle.json_character.specs.Texts.{Character, Characters}
-use Rattle.exact_json.specs.Tree.{Tree, text}
+use Rattle.json_value.specs.Tree.{Tree, text}
 use Rattle.json_character.specs.Within.{after_byte, is_begun}
 use Rattle.json_character.proofs.CharacterSteps.{word_not, leads_byte, led_byte, LeadsBegun, leads_begun, is_inside, NoQuote}
 use Rattle.json_character.proofs.Characters.{Leads}

@@ -6,7 +6,7 @@ use Rattle.exact_decimal.specs.Decimals.{decimal_of}
 use Rattle.exact_json.specs.Limits.{Limits, no_limits, limits_before}
 use Rattle.json_character.specs.Pieces.{Is, AtEnd, Byte, OneOf, Word, Digits, Blanks}
 use Rattle.json_character.specs.Texts.{Quoted}
-use Rattle.exact_json.specs.Tree.{Tree, null, flag, number, text, list, table, Trees, no_item, item, Pairs, no_pair, pair}
+use Rattle.json_value.specs.Tree.{Tree, null, flag, number, text, list, table, Trees, no_item, item, Pairs, no_pair, pair}
 use Rattle.exact_decimal.specs.declared.decimal.Decimal.{Decimal}
 
 -- Numbers (section 6).

@@ -1,9 +1,6 @@
 pub mod Grammar
+pub mod Runs
 pub mod Advance
 pub mod Read
 pub mod Readings
-pub mod Seen
 pub mod Limits
-pub mod Machine
-pub mod Tree
-pub mod View

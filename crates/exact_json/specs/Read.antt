@@ -2,7 +2,7 @@
 use Rattle.std.specs.Prelude.{◌≡◌, ℕ, ◌+◌, ◌<◌, ◌≤◌, List, ◌++◌, length, take, ◌⊎◌}
 use Rattle.exact_json.specs.Grammar.{IsJson, IsJsonBy, BeginsJson, StaysWithin}
 use Rattle.exact_json.specs.Limits.{depth_limit, number_limit_before}
-use Rattle.exact_json.specs.Tree.{Tree}
+use Rattle.json_value.specs.Tree.{Tree}
 use Rattle.exact_json.specs.declared.fault.JsonFault.{JsonFault}
 use Rattle.exact_json.specs.declared.fault.JsonFault.TheVariants.{NotJson, TooDeep, LongNumber, NoMemory}
 

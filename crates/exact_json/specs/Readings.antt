@@ -3,7 +3,7 @@
 use Rattle.std.specs.Prelude.{◌≡◌, ℕ, List, Result, Ok, Err}
 use Rattle.exact_json.specs.Grammar.{IsJsonWithin}
 use Rattle.exact_json.specs.Read.{IsFaultOf}
-use Rattle.exact_json.specs.Tree.{Tree}
+use Rattle.json_value.specs.Tree.{Tree}
 use Rattle.exact_json.specs.declared.fault.JsonFault.{JsonFault}
 use Rattle.exact_json.specs.declared.fault.JsonFault.TheVariants.{NoMemory}
 

@@ -1,18 +1,18 @@
 //! A whole text.
 
 ghost use Rattle.std.specs.Prelude.{◌≡◌, ◌<◌, ◌+◌, ◌^◌, true, length, IfOk, IfErr, MatchOption, MatchResult, Ok, Err, ◌⊎◌};
-ghost use Rattle.exact_json.specs.Advance.{Goes, IsSound, Passes, Stops};
+ghost use Rattle.exact_json.specs.Advance.{Goes, IsShort, IsSound, Passes, Stops};
 ghost use Rattle.exact_json.specs.Grammar.{IsJsonWithin};
-ghost use Rattle.exact_json.specs.Machine.{start, is_within, run_within};
+ghost use Rattle.json_value.specs.Machine.{start};
+ghost use Rattle.exact_json.specs.Runs.{is_within, run_within};
 ghost use Rattle.exact_json.specs.Read.{IsFaultOf};
 ghost use Rattle.exact_json.specs.Readings.{Reading};
-ghost use Rattle.exact_json.specs.Seen.{seen_with, IsReady, IsShort};
-ghost use Rattle.exact_json.specs.Tree.{Tree};
-ghost use Rattle.exact_json.specs.View.{tree_of};
+ghost use Rattle.json_value.specs.Seen.{seen_with, IsReady};
+ghost use Rattle.json_value.specs.Tree.{Tree};
+ghost use Rattle.json_value.specs.View.{tree_of};
 
 use crate::fault::JsonFault;
-use crate::machine::{Machine, Next, finish, step};
-use crate::value::Json;
+use json_value::{Json, Machine, Next, finish, step};
 use std::alloc::Global;
 
 /// The limit that the byte at the place passes.

@@ -1,12 +1,12 @@
 -- The items of a list and the members of an object, one after another.
 use Rattle.std.proofs.Common.{◌≡◌, ℕ, zero, suc, ◌+◌, ◌≤◌, true, false, cond, List, [], ◌∷◌, length, drop, Some, option_map, refl, ap, ◌∙◌, add-one, arith, rules, bytes_eq}
 use Rattle.std.specs.List.{slice_get}
-use Rattle.exact_json.specs.Tree.{Tree, no_item, no_pair, Entry, items_before, pairs_before, list_of, table_of}
-use Rattle.exact_json.specs.View.{tree_of, items_of, entries_of}
-use Rattle.exact_json.specs.declared.value.Json.{the_lemmas}
-use Rattle.exact_json.specs.declared.value.Json.TheVariants as json
-use Rattle.exact_json.specs.declared.value.JsonList.{JsonList}
-use Rattle.exact_json.specs.declared.value.JsonTable.{JsonTable}
+use Rattle.json_value.specs.Tree.{Tree, no_item, no_pair, Entry, items_before, pairs_before, list_of, table_of}
+use Rattle.json_value.specs.View.{tree_of, items_of, entries_of}
+use Rattle.json_value.specs.declared.value.Json.{the_lemmas}
+use Rattle.json_value.specs.declared.value.Json.TheVariants as json
+use Rattle.json_value.specs.declared.value.JsonList.{JsonList}
+use Rattle.json_value.specs.declared.value.JsonTable.{JsonTable}
 use Rattle.geo_json.specs.Lookup.{items_in, entries_in, list_in, object_in, values_named, Found, absent, once, again, found_among}
 use Rattle.geo_json.specs.Seen.{with_more}
 

@@ -2,7 +2,7 @@
 use Rattle.std.specs.Prelude.{◌≡◌, ℤ, ℕ, Bool, true, false, if◌then◌else◌, List, [], ◌∷◌, Option, Some, None, option_map, option_and_then, Result, Ok, Err, codes, bytes_eq, find}
 use Rattle.std.specs.List.{list_any}
 use Rattle.exact_decimal.specs.Micro.{micro_of, whole_of}
-use Rattle.exact_json.specs.Tree.{Tree, Entry}
+use Rattle.json_value.specs.Tree.{Tree, Entry}
 use Rattle.geo_json.specs.Lookup.{number_in, text_in, list_in, object_in, Found, once, again, find_member}
 use Rattle.geo_json.specs.declared.geometry.Form.{Form}
 use Rattle.geo_json.specs.declared.geometry.Form.TheVariants.{Polygon as polygon_form, MultiPolygon as multi_polygon_form, Feature as feature_form, FeatureCollection as collection_form}

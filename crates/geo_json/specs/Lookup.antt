@@ -1,7 +1,7 @@
 -- What a plain tree of JSON holds: a number, a text, a list or an object, and the member of an object with a name.
 use Rattle.std.specs.Prelude.{ℕ, cond, List, [], ◌∷◌, Option, Some, None, bytes_eq}
 use Rattle.exact_decimal.specs.declared.decimal.Decimal.{Decimal}
-use Rattle.exact_json.specs.Tree.{Tree, number, text, list, table, Trees, no_item, item, Pairs, no_pair, pair, Entry}
+use Rattle.json_value.specs.Tree.{Tree, number, text, list, table, Trees, no_item, item, Pairs, no_pair, pair, Entry}
 
 abbrev pub items_in : Trees → List Tree
 items_in no_item = []

@@ -1,6 +1,6 @@
 -- What the code's answers stand for.
-use Rattle.exact_json.specs.Tree.{Tree}
-use Rattle.exact_json.specs.View as view
+use Rattle.json_value.specs.Tree.{Tree}
+use Rattle.json_value.specs.View as view
 use Rattle.geo_json.specs.Lookup as lookup
 use Rattle.geo_json.specs.declared.lookup.Found.{Found}
 use Rattle.geo_json.specs.declared.lookup.Found.TheVariants.{Absent, Once, Again}

@@ -1,13 +1,13 @@
 // Districts: in the forms of GeoJSON that an order may have, and as the canonical line has them.
 ghost use Rattle.std.specs.Prelude.{◌≡◌, option_map, option_and_then, codes};
-ghost use Rattle.exact_json.specs.View.{tree_of, items_of, entries_of};
+ghost use Rattle.json_value.specs.View.{tree_of, items_of, entries_of};
 ghost use Rattle.geo_json.specs.Lookup.{object_in, find_member};
 ghost use Rattle.geo_json.specs.Geometry.{Answers, form_named, form_word, form_in, features_list, geometry_of, has_doubles, is_again, line_district_of, member_in, feature_in, only_feature, only_item, one_polygon_in, shape_in};
 ghost use Rattle.ring_survey.specs.Vectors.{polygons_in};
 
 use crate::lookup::{Found, find_member, list_in, object_in, text_in};
 use crate::positions::{GeometryFault, Notation, multi_polygon_in, multi_polygon_of, polygon_in};
-use exact_json::{Json, JsonList, JsonTable};
+use json_value::{Json, JsonList, JsonTable};
 use std::alloc::Global;
 
 /// The forms of GeoJSON that a district may have.

@@ -1,10 +1,11 @@
 // What a value of JSON holds, and the member of an object with a name.
 ghost use Rattle.std.specs.Prelude.{◌≡◌, option_map};
-ghost use Rattle.exact_json.specs.View.{tree_of, items_of, entries_of};
+ghost use Rattle.json_value.specs.View.{tree_of, items_of, entries_of};
 ghost use Rattle.geo_json.specs.Lookup.{number_in, text_in, list_in, object_in, find_member};
 ghost use Rattle.geo_json.specs.Seen.{found_of, with_more};
 
-use exact_json::{Decimal, Json, JsonList, JsonTable};
+use exact_decimal::Decimal;
+use json_value::{Json, JsonList, JsonTable};
 
 /// The number that a value is.
 pub fn number_in(value: &Json) -> Option<&Decimal>

@@ -1,12 +1,12 @@
 // Lists of positions, of rings and of polygons.
 ghost use Rattle.std.specs.Prelude.{◌≡◌};
-ghost use Rattle.exact_json.specs.View.{tree_of, items_of};
+ghost use Rattle.json_value.specs.View.{tree_of, items_of};
 ghost use Rattle.geo_json.specs.Geometry.{Answers, micro_in, whole_in, both, position_of, position_in, ring_in, polygon_in, multi_polygon_in};
 ghost use Rattle.ring_survey.specs.Each.{each_of};
 ghost use Rattle.ring_survey.specs.Vectors.{rings_in, polygons_in};
 
 use crate::lookup::{list_in, number_in};
-use exact_json::{Json, JsonList};
+use json_value::{Json, JsonList};
 use std::alloc::{AllocError, AllocFailed, Global};
 
 /// Why no polygons were read.

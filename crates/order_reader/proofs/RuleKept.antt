@@ -5,7 +5,7 @@ use Rattle.std.specs.Option.{ok_or}
 use Rattle.std.proofs.lemmas.Int.{ints}
 use Rattle.std.proofs.lemmas.Option.{cond_some}
 use Rattle.exact_decimal.specs.Micro.{whole_of}
-use Rattle.exact_json.specs.Tree.{Tree, Entry}
+use Rattle.json_value.specs.Tree.{Tree, Entry}
 use Rattle.exact_decimal.specs.declared.decimal.Decimal.{Decimal}
 use Rattle.exact_json.specs.declared.fault.JsonFault.{JsonFault}
 use Rattle.method_table.specs.declared.method.Asr.{Asr}

@@ -1,7 +1,7 @@
 -- What each member of an order says, by the plain tree of its value, or why it is refused: first its kind, and then its range.
 use Rattle.std.specs.Prelude.{ℕ, ℤ, pos, neg_ℤ, ◌+ℤ◌, int_le, unsigned_abs, ◌&&◌, if◌then◌else◌, List, [], ◌∷◌, Option, Some, None, option_map, option_and_then, Result, Ok, Err, find, bytes_eq}
 use Rattle.std.specs.Option.{ok_or, option_zip}
-use Rattle.exact_json.specs.Tree.{Tree}
+use Rattle.json_value.specs.Tree.{Tree}
 use Rattle.exact_decimal.specs.declared.decimal.Decimal.{Decimal}
 use Rattle.method_table.specs.Method.{asr_word, method_of}
 use Rattle.method_table.specs.declared.method.Asr.{Asr}

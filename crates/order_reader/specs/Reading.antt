@@ -2,7 +2,7 @@
 -- twice, its kind and its range. Other members are passed over.
 use Rattle.std.specs.Prelude.{ℕ, ℤ, List, [], Option, Some, None, Result, Ok, Err}
 use Rattle.std.specs.Option.{ok_or}
-use Rattle.exact_json.specs.Tree.{Tree, Entry}
+use Rattle.json_value.specs.Tree.{Tree, Entry}
 use Rattle.method_table.specs.declared.method.Asr.{Asr}
 use Rattle.method_table.specs.declared.method.Method.{Method}
 use Rattle.night_rule.specs.declared.rule.NightRule.{NightRule}

@@ -1,7 +1,7 @@
 -- What reading bytes as an order answers: the order of the JSON text that they are, or its first refusal.
 use Rattle.std.specs.Prelude.{◌≡◌, ℕ, List, Result, Ok, Err}
 use Rattle.exact_json.specs.Readings.{Reading}
-use Rattle.exact_json.specs.Tree.{Tree}
+use Rattle.json_value.specs.Tree.{Tree}
 use Rattle.exact_json.specs.declared.fault.JsonFault.{JsonFault}
 use Rattle.exact_json.specs.declared.fault.JsonFault.TheVariants.{NoMemory}
 use Rattle.order_reader.specs.Reading.{order_in}

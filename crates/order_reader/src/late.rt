@@ -1,6 +1,6 @@
 // Ranges of dates on which Isha is later.
 ghost use Rattle.std.specs.Prelude.{◌≡◌, true, IfOk, option_map};
-ghost use Rattle.exact_json.specs.View.{items_of, tree_of};
+ghost use Rattle.json_value.specs.View.{items_of, tree_of};
 ghost use Rattle.order_reader.specs.Gives.{Gives};
 ghost use Rattle.order_reader.specs.Members.{late_in, pair_in, range_of};
 ghost use Rattle.ring_survey.specs.Each.{each_of};

@@ -1,6 +1,6 @@
 // What the members of an order say.
 ghost use Rattle.std.specs.Prelude.{◌≡◌, length, ◌≤◌, ◌≤ℤ◌, ◌+ℤ◌, pos, true, IfOk, Result, option_map};
-ghost use Rattle.exact_json.specs.View.{tree_of, entries_of};
+ghost use Rattle.json_value.specs.View.{tree_of, entries_of};
 ghost use Rattle.order_reader.specs.Gives.{Gives};
 ghost use Rattle.geo_json.specs.Lookup.{list_in, number_in, text_in};
 ghost use Rattle.order_reader.specs.Members.{asr_in, asr_of, days_in, from_in, height_in, method_in, night_in, offsets_in, sun_in, whole_within, zone_in, zone_of_number, zone_of_text};

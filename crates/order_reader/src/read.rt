@@ -1,6 +1,6 @@
 // Orders, read from JSON.
 ghost use Rattle.std.specs.Prelude.{◌≡◌, ◌⊎◌, ◌≤◌, true, Ok, Err, IfOk, IfErr};
-ghost use Rattle.exact_json.specs.View.{entries_of, tree_of};
+ghost use Rattle.json_value.specs.View.{entries_of, tree_of};
 ghost use Rattle.order_reader.specs.Gives.{Gives};
 ghost use Rattle.order_reader.specs.Members.{asr_in, days_in, from_in, height_in, late_in, method_in, offsets_in, sun_in, zone_in};
 ghost use Rattle.order_reader.specs.Parts.{basis_view, extras_view};

@@ -5,7 +5,7 @@ use Rattle.std.specs.List.{AllByRecursion}
 use Rattle.std.proofs.lemmas.Bool.Decides.{nat_tests}
 use Rattle.std.proofs.lemmas.Int.{ints}
 use Rattle.std.proofs.lemmas.List.Elements.{recursion_from_All}
-use Rattle.exact_json.specs.Tree.{Tree, Entry, text, list_of}
+use Rattle.json_value.specs.Tree.{Tree, Entry, text, list_of}
 use Rattle.method_table.specs.Method.{asr_word, method_word}
 use Rattle.night_rule.specs.declared.rule.NightRule.{NightRule}
 use Rattle.geo_json.proofs.LookupLemmas.{entries_in_before, items_in_before}

@@ -2,7 +2,7 @@
 use Rattle.std.proofs.Common.{◌≡◌, refl, subst, ℕ, ◌≤◌, Bool, true, false, cond, List, [], None, Result, Ok, arith}
 use Rattle.std.specs.Prelude.{nat_le}
 use Rattle.std.specs.Option.{ok_or}
-use Rattle.exact_json.specs.Tree.{Tree, Entry}
+use Rattle.json_value.specs.Tree.{Tree, Entry}
 use Rattle.method_table.specs.declared.method.Method.{Method}
 use Rattle.order_reader.proofs.GivenSteps.{gave}
 use Rattle.order_reader.proofs.RuleKept.{KeepsExtras, basis_kept, extras_by, height_kept, kept_by, late_kept, parts_kept, sound_by}

@@ -7,7 +7,7 @@ use Rattle.std.specs.Fmt.{decimal, signed_decimal}
 use Rattle.std.specs.List.{list_all}
 use Rattle.exact_json.specs.Grammar.{IsJsonWithin, Value}
 use Rattle.exact_json.specs.Limits.{limits_before}
-use Rattle.exact_json.specs.Tree.{Tree, text, list_of, table_of}
+use Rattle.json_value.specs.Tree.{Tree, text, list_of, table_of}
 use Rattle.method_table.specs.Method.{asr_word, method_word}
 use Rattle.method_table.specs.declared.method.Asr.{Asr}
 use Rattle.method_table.specs.declared.method.Asr.TheVariants.{Standard, Hanafi}

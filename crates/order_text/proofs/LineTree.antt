@@ -1,7 +1,7 @@
 -- The plain tree of a canonical line, and the text of each of its members.
 use Rattle.std.proofs.Common.{ℕ, ℤ, pos, Bool, true, false, List, [], ◌∷◌, Option, Some, None, map, codes}
 use Rattle.std.specs.Fmt.{decimal}
-use Rattle.exact_json.specs.Tree.{Tree, number, text, list_of, table_of}
+use Rattle.json_value.specs.Tree.{Tree, number, text, list_of, table_of}
 use Rattle.method_table.specs.Method.{asr_word, method_word}
 use Rattle.night_rule.specs.Rule.{night_word}
 use Rattle.night_rule.specs.declared.rule.NightRule.{NightRule}

@@ -5,7 +5,7 @@ use Rattle.std.specs.Prelude.{int_le, length, nat_le, ◌||◌, unsigned_abs}
 use Rattle.std.specs.List.{list_all}
 use Rattle.std.proofs.lemmas.Int.{ints}
 use Rattle.std.proofs.lemmas.Option.{cond_some, option_and_then_some}
-use Rattle.exact_json.specs.Tree.{text, list_of}
+use Rattle.json_value.specs.Tree.{text, list_of}
 use Rattle.jiff_tz.specs.Year.{year_of_day}
 use Rattle.method_table.specs.Method.{asr_word, method_word}
 use Rattle.method_table.specs.declared.method.Asr.{Asr}

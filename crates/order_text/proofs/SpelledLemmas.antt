@@ -12,7 +12,7 @@ use Rattle.exact_json.specs.Grammar.{Value, Items, MoreItems, Members, MoreMembe
 use Rattle.exact_json.specs.Limits.{limits_before}
 use Rattle.json_character.specs.Pieces.{Is, Byte, Blanks}
 use Rattle.json_character.specs.Texts.{Quoted, Characters, is_plain}
-use Rattle.exact_json.specs.Tree.{Tree, number, text, no_item, no_pair, Entry, list_of, table_of, items_before, pairs_before}
+use Rattle.json_value.specs.Tree.{Tree, number, text, no_item, no_pair, Entry, list_of, table_of, items_before, pairs_before}
 use Rattle.order_text.specs.Line.{items_text, list_text, more_text}
 use Rattle.order_text.proofs.NumberLemmas.{spelled_number, whole_decimal}
 use Rattle.year_table.specs.Rules.{is_rule_byte}

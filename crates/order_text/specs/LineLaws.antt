@@ -1,7 +1,7 @@
 -- Laws of canonical lines.
 use Rattle.std.specs.Prelude.{◌≡◌, ℕ, ◌≤◌, List, Result, Ok}
 use Rattle.std.specs.Option.{ok_or}
-use Rattle.exact_json.specs.Tree.{Tree}
+use Rattle.json_value.specs.Tree.{Tree}
 use Rattle.order_reader.specs.Gives.{◌>>=◌}
 use Rattle.geo_json.specs.Lookup.{object_in}
 use Rattle.order_reader.specs.Reading.{needed}

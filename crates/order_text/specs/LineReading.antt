@@ -2,7 +2,7 @@
 -- an order are read. Other members are passed over.
 use Rattle.std.specs.Prelude.{ℕ, nat_le, pos, unsigned_abs, if◌then◌else◌, List, [], None, option_map, Result, Ok}
 use Rattle.std.specs.Option.{ok_or}
-use Rattle.exact_json.specs.Tree.{Tree, Entry}
+use Rattle.json_value.specs.Tree.{Tree, Entry}
 use Rattle.method_table.specs.declared.method.Method.{Method}
 use Rattle.geo_json.specs.Geometry.{line_district_of}
 use Rattle.order_reader.specs.Gives.{◌>>=◌}

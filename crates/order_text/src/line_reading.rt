@@ -1,6 +1,6 @@
 // Canonical lines, read again.
 ghost use Rattle.std.specs.Prelude.{◌≡◌, ◌⊎◌, ◌≤◌, true, [], None, Ok, Err, IfOk, IfErr};
-ghost use Rattle.exact_json.specs.View.{entries_of, tree_of};
+ghost use Rattle.json_value.specs.View.{entries_of, tree_of};
 ghost use Rattle.order_reader.specs.Gives.{Gives};
 ghost use Rattle.order_reader.specs.Members.{height_in, late_in, sun_in};
 ghost use Rattle.order_reader.specs.Parts.{extras_view};

@@ -8,7 +8,7 @@ use Rattle.std.specs.Vec.{vec_items, vec_len}
 use Rattle.std.specs.declared.vec.Vec.{Vec}
 use Rattle.std.proofs.lemmas.List.{map-append}
 use Rattle.std.proofs.lemmas.Bool.Decides.{nat_tests}
-use Rattle.exact_json.specs.Tree.{Tree, Entry}
+use Rattle.json_value.specs.Tree.{Tree, Entry}
 use Rattle.geo_json.specs.Geometry.{features_list}
 use Rattle.order_reader.specs.Reading.{district_of, unless_refused}
 use Rattle.order_reader.specs.declared.fault.OrderFault.{OrderFault}

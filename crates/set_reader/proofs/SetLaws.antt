@@ -1,7 +1,7 @@
 -- What reading sets answers.
 use Rattle.std.proofs.Common.{◌≡◌, refl, sym, subst, List, Option, Some, None, Result, Ok, Err}
 use Rattle.std.specs.Option.{ok_or}
-use Rattle.exact_json.specs.Tree.{Tree, Entry}
+use Rattle.json_value.specs.Tree.{Tree, Entry}
 use Rattle.exact_json.specs.declared.fault.JsonFault.{JsonFault}
 use Rattle.night_rule.specs.declared.rule.NightRule.{NightRule}
 use Rattle.order_reader.proofs.GivenSteps.{gave}

@@ -1,7 +1,7 @@
 -- The Features of a collection, each by its polygons.
 use Rattle.std.specs.Prelude.{nat_le, ◌&&◌, if◌then◌else◌, List, length, Option, None, option_and_then}
 use Rattle.std.specs.List.{flat_map}
-use Rattle.exact_json.specs.Tree.{Tree, Entry}
+use Rattle.json_value.specs.Tree.{Tree, Entry}
 use Rattle.geo_json.specs.Geometry.{feature_in, features_list}
 use Rattle.geo_json.specs.Lookup.{object_in}
 use Rattle.ring_survey.specs.Each.{each_of}

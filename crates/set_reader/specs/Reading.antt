@@ -2,7 +2,7 @@
 -- district are looked at otherwise.
 use Rattle.std.specs.Prelude.{List, Option, Some, None, Result, Ok, Err}
 use Rattle.std.specs.Option.{ok_or}
-use Rattle.exact_json.specs.Tree.{Tree, Entry}
+use Rattle.json_value.specs.Tree.{Tree, Entry}
 use Rattle.night_rule.specs.declared.rule.NightRule.{NightRule}
 use Rattle.order_reader.specs.Gives.{◌>>=◌}
 use Rattle.geo_json.specs.Lookup.{object_in}

@@ -1,6 +1,6 @@
 // The Features of a collection.
 ghost use Rattle.std.specs.Prelude.{◌≡◌, IfOk};
-ghost use Rattle.exact_json.specs.View.{entries_of, items_of, tree_of};
+ghost use Rattle.json_value.specs.View.{entries_of, items_of, tree_of};
 ghost use Rattle.geo_json.specs.Geometry.{Answers};
 ghost use Rattle.ring_survey.specs.Each.{each_of};
 ghost use Rattle.ring_survey.specs.Vectors.{polygons_in};

@@ -1,6 +1,6 @@
 // Sets of districts, read from JSON.
 ghost use Rattle.std.specs.Prelude.{◌≡◌, ◌⊎◌, true, None, Ok, Err, IfOk, IfErr};
-ghost use Rattle.exact_json.specs.View.{entries_of, tree_of};
+ghost use Rattle.json_value.specs.View.{entries_of, tree_of};
 ghost use Rattle.order_reader.specs.Gives.{Gives};
 ghost use Rattle.ring_survey.specs.Faults.{first_fault};
 ghost use Rattle.set_reader.specs.Asked.{asked_of};

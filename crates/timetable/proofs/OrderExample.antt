@@ -4,7 +4,7 @@ use Rattle.std.proofs.lemmas.List.Elements.{All-cons, All-nil}
 use Rattle.std.specs.Fmt.{digits, signed_decimal}
 use Rattle.exact_json.specs.Grammar.{IsJsonWithin, Value}
 use Rattle.exact_json.specs.Limits.{limits_before}
-use Rattle.exact_json.specs.Tree.{Tree, table_of}
+use Rattle.json_value.specs.Tree.{Tree, table_of}
 use Rattle.exact_decimal.specs.Digits.{leading}
 use Rattle.exact_decimal.specs.Micro.{micro_of, whole_of}
 use Rattle.geo_json.specs.Geometry.{form_in, geometry_of, has_doubles, member_in, shape_in}

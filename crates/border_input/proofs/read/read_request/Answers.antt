@@ -1,5 +1,5 @@
 use Rattle.std.proofs.Common.{subst, sym, ◌≡◌, ◌⊎◌, Err}
-use Rattle.exact_json.specs.View.{tree_of}
+use Rattle.json_value.specs.View.{tree_of}
 use Rattle.border_input.proofs.ReadLemmas.{json_refusal_is, request_is, refusal_is}
 use Rattle.border_input.specs.Reads.{ReadsRequest}
 use Rattle.border_input.specs.declared.fault.RequestFault.TheVariants.{NoMemory}

@@ -1,5 +1,5 @@
 use Rattle.std.proofs.Common.{sym, ap, ◌∙◌, option_map}
-use Rattle.exact_json.specs.Seen.{seen_with}
+use Rattle.json_value.specs.Seen.{seen_with}
 use Rattle.exact_json.proofs.ReaderRuns.{short_more}
 use Rattle.exact_json.proofs.reader.advance.Goals as goal
 

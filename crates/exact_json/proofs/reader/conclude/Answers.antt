@@ -1,6 +1,6 @@
 use Rattle.std.proofs.Common.{sym, ap, ◌∙◌, option_map}
-use Rattle.exact_json.specs.Seen.{seen_with}
-use Rattle.exact_json.specs.View.{tree_of}
+use Rattle.json_value.specs.Seen.{seen_with}
+use Rattle.json_value.specs.View.{tree_of}
 use Rattle.exact_json.proofs.Faults.{accepted}
 use Rattle.exact_json.proofs.ReaderRuns.{one_tree, end_fault, end_refuses}
 use Rattle.exact_json.proofs.reader.conclude.Goals as goal

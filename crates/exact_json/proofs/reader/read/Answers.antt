@@ -1,5 +1,5 @@
 use Rattle.std.proofs.Common.{arith}
-use Rattle.exact_json.specs.Seen.{seen_with}
+use Rattle.json_value.specs.Seen.{seen_with}
 use Rattle.exact_json.proofs.ReaderRuns.{before, turn, stop, stop_refuses}
 use Rattle.exact_json.proofs.Readings.{fault_reading}
 use Rattle.exact_json.proofs.reader.read.Goals as goal

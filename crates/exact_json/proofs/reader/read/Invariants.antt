@@ -1,6 +1,7 @@
 use Rattle.std.proofs.Common.{◌≡◌, Some, take}
-use Rattle.exact_json.specs.Machine.{start, run_within}
-use Rattle.exact_json.specs.Seen.{seen_with}
+use Rattle.json_value.specs.Machine.{start}
+use Rattle.exact_json.specs.Runs.{run_within}
+use Rattle.json_value.specs.Seen.{seen_with}
 use Rattle.exact_json.proofs.reader.read.Given as goal
 
 abbrev pub invariant-loop-place : goal.invariant-loop-place

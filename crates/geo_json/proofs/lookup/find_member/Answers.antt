@@ -1,5 +1,5 @@
 use Rattle.std.proofs.Common.{◌≡◌, ◌≤◌, true, false, length, sym, ap, ◌∙◌, arith, bytes_eq}
-use Rattle.exact_json.specs.View.{tree_of, entries_of}
+use Rattle.json_value.specs.View.{tree_of, entries_of}
 use Rattle.geo_json.specs.Seen.{found_of, with_more}
 use Rattle.geo_json.proofs.LookupLemmas.{found_at, missed_at, found_all}
 use Rattle.geo_json.proofs.lookup.find_member.Goals as goal

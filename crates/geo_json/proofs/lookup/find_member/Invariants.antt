@@ -1,5 +1,5 @@
 use Rattle.std.proofs.Common.{◌≡◌, drop}
-use Rattle.exact_json.specs.View.{entries_of}
+use Rattle.json_value.specs.View.{entries_of}
 use Rattle.geo_json.specs.Lookup.{values_named, find_member}
 use Rattle.geo_json.specs.Seen.{found_of}
 use Rattle.geo_json.proofs.LookupLemmas.{and_more}

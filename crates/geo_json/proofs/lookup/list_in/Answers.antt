@@ -1,5 +1,5 @@
 use Rattle.std.proofs.Common.{ap, sym, ◌∙◌}
-use Rattle.exact_json.specs.View.{tree_of}
+use Rattle.json_value.specs.View.{tree_of}
 use Rattle.geo_json.specs.Lookup.{list_in}
 use Rattle.geo_json.proofs.LookupLemmas.{items_in_list}
 use Rattle.geo_json.proofs.lookup.list_in.Goals as goal

@@ -1,5 +1,5 @@
 use Rattle.std.proofs.Common.{ap, sym, ◌∙◌}
-use Rattle.exact_json.specs.View.{tree_of}
+use Rattle.json_value.specs.View.{tree_of}
 use Rattle.geo_json.specs.Lookup.{object_in}
 use Rattle.geo_json.proofs.LookupLemmas.{entries_in_table}
 use Rattle.geo_json.proofs.lookup.object_in.Goals as goal

@@ -1,6 +1,6 @@
 use Rattle.std.proofs.Common.{◌≤◌, length, arith}
 use Rattle.std.proofs.lemmas.List.{map-append}
-use Rattle.exact_json.specs.View.{tree_of, items_of}
+use Rattle.json_value.specs.View.{tree_of, items_of}
 use Rattle.geo_json.specs.Geometry.{polygon_in}
 use Rattle.geo_json.proofs.GeometryLemmas.{one_more, refused_here, no_more}
 use Rattle.geo_json.proofs.positions.multi_polygon_of.Goals as goal

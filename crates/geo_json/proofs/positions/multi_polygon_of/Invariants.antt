@@ -1,5 +1,5 @@
 use Rattle.std.proofs.Common.{◌≡◌, drop}
-use Rattle.exact_json.specs.View.{items_of}
+use Rattle.json_value.specs.View.{items_of}
 use Rattle.geo_json.specs.Geometry.{polygon_in}
 use Rattle.geo_json.proofs.positions.multi_polygon_of.Given as goal
 use Rattle.ring_survey.specs.Each.{each_of}

@@ -1,5 +1,5 @@
 use Rattle.std.proofs.Common.{◌≤◌, sym, ◌∙◌, length, arith}
-use Rattle.exact_json.specs.View.{tree_of, items_of}
+use Rattle.json_value.specs.View.{tree_of, items_of}
 use Rattle.geo_json.specs.Geometry.{position_in}
 use Rattle.geo_json.proofs.GeometryLemmas.{one_more, none_here, no_more}
 use Rattle.geo_json.proofs.positions.ring_of.Goals as goal

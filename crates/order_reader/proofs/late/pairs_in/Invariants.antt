@@ -1,5 +1,5 @@
 use Rattle.std.proofs.Common.{◌≡◌, drop}
-use Rattle.exact_json.specs.View.{items_of}
+use Rattle.json_value.specs.View.{items_of}
 use Rattle.order_reader.specs.Members.{pair_in}
 use Rattle.order_reader.proofs.late.pairs_in.Given as goal
 use Rattle.ring_survey.proofs.EachLemmas.{with_front}

@@ -1,6 +1,6 @@
 use Rattle.std.proofs.Common.{◌≤◌, length, arith}
 use Rattle.std.proofs.lemmas.List.{map-append}
-use Rattle.exact_json.specs.View.{tree_of, items_of}
+use Rattle.json_value.specs.View.{tree_of, items_of}
 use Rattle.geo_json.proofs.GeometryLemmas.{one_more, refused_here, no_more}
 use Rattle.ring_survey.specs.Vectors.{polygons_in}
 use Rattle.set_reader.proofs.features.each_feature.Goals as goal

@@ -1,5 +1,5 @@
 use Rattle.std.proofs.Common.{◌≡◌, drop}
-use Rattle.exact_json.specs.View.{items_of}
+use Rattle.json_value.specs.View.{items_of}
 use Rattle.ring_survey.proofs.EachLemmas.{with_front}
 use Rattle.ring_survey.specs.Each.{each_of}
 use Rattle.set_reader.proofs.features.each_feature.Given as goal

@@ -1,5 +1,5 @@
 use Rattle.std.proofs.Common.{◌≡◌, ◌∙◌, ap, sym}
-use Rattle.exact_json.specs.View.{entries_of}
+use Rattle.json_value.specs.View.{entries_of}
 use Rattle.order_reader.specs.Reading.{district_of}
 use Rattle.ring_survey.specs.Vectors.{polygons_in}
 use Rattle.set_reader.proofs.PartsLemmas.{are_parts}

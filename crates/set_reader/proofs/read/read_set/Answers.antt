@@ -1,5 +1,5 @@
 use Rattle.std.proofs.Common.{subst, sym, ◌≡◌, ◌⊎◌, Err}
-use Rattle.exact_json.specs.View.{tree_of}
+use Rattle.json_value.specs.View.{tree_of}
 use Rattle.order_reader.proofs.ReadLaws.{json_refusal_is, order_is, refusal_is}
 use Rattle.order_reader.specs.declared.fault.OrderFault.TheVariants.{NoMemory}
 use Rattle.set_reader.proofs.read.read_set.Goals as goal

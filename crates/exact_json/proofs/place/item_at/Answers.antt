@@ -1,6 +1,0 @@
-use Rattle.exact_json.specs.View.{tree_of}
-use Rattle.exact_json.proofs.Oks.{map_at}
-use Rattle.exact_json.proofs.place.item_at.Goals as goal
-
-pub returns : goal.returns
-returns c = map_at tree_of c.args.items.now c.args.i c.index-items-i.result c.requires c.index-items-i.is
