@@ -8,8 +8,8 @@ use Rattle.exact_json.specs.declared.fault.JsonFault.{JsonFault}
 use Rattle.exact_json.specs.declared.fault.JsonFault.TheVariants as json
 use Rattle.border_input.specs.Gives.{Gives}
 use Rattle.std.specs.Prelude.{◌≢◌}
-use Rattle.order_reader.specs.declared.fault.OrderFault.{OrderFault}
-use Rattle.order_reader.specs.declared.fault.OrderFault.TheVariants.{NoMemory as OrderNoMemory}
+use Rattle.order_member.specs.declared.fault.OrderFault.{OrderFault}
+use Rattle.order_member.specs.declared.fault.OrderFault.TheVariants.{NoMemory as OrderNoMemory}
 use Rattle.border_input.specs.Reading.{of_order, request_in}
 use Rattle.border_input.specs.Reads.{EveryTextIsARequestOrRefused, RequestReadingsAgree, ReadsRequest, answer_by, json_refusal}
 use Rattle.border_input.specs.Requests.{requested_of}

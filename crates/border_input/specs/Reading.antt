@@ -6,10 +6,11 @@ use Rattle.ring_survey.specs.Polygons.{Polygon}
 use Rattle.ring_survey.specs.declared.faults.RegionFault.{RegionFault}
 use Rattle.geo_json.specs.Geometry.{geometry_of}
 use Rattle.geo_json.specs.Lookup.{Found, absent, once, again, find_member, object_in}
-use Rattle.order_reader.specs.Reading.{needed, order_in}
-use Rattle.order_reader.specs.declared.fault.Member.TheVariants as members
-use Rattle.order_reader.specs.declared.fault.OrderFault.{OrderFault}
-use Rattle.order_reader.specs.declared.fault.OrderFault.TheVariants as orders
+use Rattle.order_member.specs.Standing.{needed}
+use Rattle.order_reader.specs.Reading.{order_in}
+use Rattle.order_member.specs.declared.fault.Member.TheVariants as members
+use Rattle.order_member.specs.declared.fault.OrderFault.{OrderFault}
+use Rattle.order_member.specs.declared.fault.OrderFault.TheVariants as orders
 use Rattle.order_rule.specs.Asked.{Asked}
 use Rattle.border_check.specs.Borders.{border_fault}
 use Rattle.border_input.specs.Gives.{◌>>=◌}

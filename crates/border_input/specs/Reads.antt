@@ -4,7 +4,7 @@ use Rattle.exact_json.specs.Readings.{Reading}
 use Rattle.json_value.specs.Tree.{Tree}
 use Rattle.exact_json.specs.declared.fault.JsonFault.{JsonFault}
 use Rattle.exact_json.specs.declared.fault.JsonFault.TheVariants.{NoMemory as JsonNoMemory}
-use Rattle.order_reader.specs.declared.fault.OrderFault.TheVariants.{Json}
+use Rattle.order_member.specs.declared.fault.OrderFault.TheVariants.{Json}
 use Rattle.border_input.specs.Reading.{request_in}
 use Rattle.border_input.specs.Requests.{Requested}
 use Rattle.border_input.specs.declared.fault.RequestFault.{RequestFault}

@@ -14,7 +14,7 @@ use Rattle.ical_text.specs.declared.event.Event.{Event}
 use Rattle.ical_text.specs.declared.fault.IcalFault.{IcalFault}
 use Rattle.order_reader.proofs.ReadLaws.{every_text_is_read_or_refused, order_readings_agree, some_answer}
 use Rattle.order_reader.specs.Reads.{ReadsOrder}
-use Rattle.order_reader.specs.declared.fault.OrderFault.{OrderFault}
+use Rattle.order_member.specs.declared.fault.OrderFault.{OrderFault}
 use Rattle.order_rule.specs.Asked.{Asked}
 use Rattle.order_text.proofs.LineLaws.{line_readings_agree}
 use Rattle.order_text.specs.LineReading.{line_order_in}

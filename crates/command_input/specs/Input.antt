@@ -6,7 +6,7 @@ use Rattle.ical_text.specs.Lines.{joined_lines}
 use Rattle.ical_text.specs.declared.event.Event.{Event}
 use Rattle.ical_text.specs.declared.fault.IcalFault.{IcalFault}
 use Rattle.order_reader.specs.Reads.{ReadsOrder}
-use Rattle.order_reader.specs.declared.fault.OrderFault.{OrderFault}
+use Rattle.order_member.specs.declared.fault.OrderFault.{OrderFault}
 use Rattle.order_rule.specs.Asked.{Asked}
 use Rattle.order_text.specs.LineReading.{ReadsLine}
 use Rattle.set_reader.specs.Asked.{SetAsked}

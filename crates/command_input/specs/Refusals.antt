@@ -5,10 +5,10 @@ use Rattle.exact_json.specs.declared.fault.JsonFault.TheVariants.{NotJson, TooDe
 use Rattle.ical_text.specs.declared.fault.IcalFault.{IcalFault}
 use Rattle.ical_text.specs.declared.fault.IcalFault.TheVariants.{NotLine, Frame, Event}
 use Rattle.ical_text.specs.declared.fault.IcalFault.TheVariants.{NoMemory as IcalNoMemory}
-use Rattle.order_reader.specs.Words.{member_word}
-use Rattle.order_reader.specs.declared.fault.OrderFault.{OrderFault}
-use Rattle.order_reader.specs.declared.fault.OrderFault.TheVariants.{Json, Missing, Twice, Kind, Range, Geometry, Region}
-use Rattle.order_reader.specs.declared.fault.OrderFault.TheVariants.{NoMemory as OrderNoMemory}
+use Rattle.order_member.specs.Words.{member_word}
+use Rattle.order_member.specs.declared.fault.OrderFault.{OrderFault}
+use Rattle.order_member.specs.declared.fault.OrderFault.TheVariants.{Json, Missing, Twice, Kind, Range, Geometry, Region}
+use Rattle.order_member.specs.declared.fault.OrderFault.TheVariants.{NoMemory as OrderNoMemory}
 use Rattle.ring_survey.specs.declared.faults.RegionFault.{RegionFault}
 use Rattle.ring_survey.specs.declared.faults.RegionFault.TheVariants.{Short, Open, TooMany, TooWide, TooFar, NoPolygon, NoMemory as RegionNoMemory}
 

@@ -6,8 +6,8 @@ use Rattle.command_input.specs.declared.covering.Covering.{Covering}
 use Rattle.ical_text.specs.declared.event.Event.{Event}
 use Rattle.ical_text.specs.declared.fault.IcalFault.{IcalFault}
 use Rattle.ical_text.specs.declared.fault.IcalFault.TheVariants.{NoMemory as IcalNoMemory}
-use Rattle.order_reader.specs.declared.fault.OrderFault.{OrderFault}
-use Rattle.order_reader.specs.declared.fault.OrderFault.TheVariants.{NoMemory as OrderNoMemory}
+use Rattle.order_member.specs.declared.fault.OrderFault.{OrderFault}
+use Rattle.order_member.specs.declared.fault.OrderFault.TheVariants.{NoMemory as OrderNoMemory}
 use Rattle.order_rule.specs.Asked.{asked_of}
 use Rattle.order_rule.specs.declared.order.Order.{Order}
 use Rattle.outcome.specs.Streams.{Stream}

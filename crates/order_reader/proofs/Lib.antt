@@ -1,3 +1,2 @@
-pub mod GivenSteps
 pub mod ReadLaws
 pub mod RuleKept

@@ -6,11 +6,11 @@ use Rattle.exact_json.specs.Read.{IsFaultOf}
 use Rattle.json_value.specs.Tree.{Tree}
 use Rattle.exact_json.specs.declared.fault.JsonFault.{JsonFault}
 use Rattle.exact_json.specs.declared.fault.JsonFault.TheVariants as json
-use Rattle.order_reader.specs.Gives.{Gives}
+use Rattle.order_member.specs.Gives.{Gives}
 use Rattle.order_reader.specs.Reads.{EveryTextIsReadOrRefused, OrderReadingsAgree, ReadsBy, answer_by, json_refusal}
 use Rattle.order_reader.specs.Reading.{order_in}
-use Rattle.order_reader.specs.declared.fault.OrderFault.{OrderFault}
-use Rattle.order_reader.specs.declared.fault.OrderFault.TheVariants.{NoMemory}
+use Rattle.order_member.specs.declared.fault.OrderFault.{OrderFault}
+use Rattle.order_member.specs.declared.fault.OrderFault.TheVariants.{NoMemory}
 
 module _ {A : Type 0} (reading : Tree → Result A OrderFault) (bytes : List ℕ) where
   -- of a text with a tree

@@ -7,14 +7,13 @@ use Rattle.method_table.specs.declared.method.Asr.{Asr}
 use Rattle.method_table.specs.declared.method.Method.{Method}
 use Rattle.night_rule.specs.declared.rule.NightRule.{NightRule}
 use Rattle.geo_json.specs.Geometry.{geometry_of}
-use Rattle.order_reader.specs.Gives.{◌>>=◌}
-use Rattle.geo_json.specs.Lookup.{Found, absent, once, again, find_member, object_in}
-use Rattle.order_reader.specs.Members.{asr_in, days_in, from_in, height_in, late_in, method_in, night_in, offsets_in, sun_in, zone_in}
-use Rattle.order_reader.specs.Words.{member_word}
-use Rattle.order_reader.specs.declared.fault.Member.{Member}
-use Rattle.order_reader.specs.declared.fault.Member.TheVariants as members
-use Rattle.order_reader.specs.declared.fault.OrderFault.{OrderFault}
-use Rattle.order_reader.specs.declared.fault.OrderFault.TheVariants.{Missing, Twice, Kind, Geometry, Region}
+use Rattle.order_member.specs.Gives.{◌>>=◌}
+use Rattle.geo_json.specs.Lookup.{object_in}
+use Rattle.order_member.specs.Members.{asr_in, days_in, from_in, height_in, late_in, method_in, offsets_in, rule_in, sun_in, zone_in}
+use Rattle.order_member.specs.Standing.{needed, optional}
+use Rattle.order_member.specs.declared.fault.Member.TheVariants as members
+use Rattle.order_member.specs.declared.fault.OrderFault.{OrderFault}
+use Rattle.order_member.specs.declared.fault.OrderFault.TheVariants.{Kind, Geometry, Region}
 use Rattle.order_rule.specs.Asked.{Asked}
 use Rattle.ring_survey.specs.Faults.{first_fault}
 use Rattle.ring_survey.specs.Polygons.{Polygon}
@@ -22,24 +21,6 @@ use Rattle.ring_survey.specs.declared.faults.RegionFault.{RegionFault}
 use Rattle.sun_choice.specs.declared.choice.SunChoice.{SunChoice}
 use Rattle.sun_choice.specs.declared.choice.SunChoice.TheVariants.{Usno}
 use Rattle.year_table.specs.declared.zone.Zone.{Zone}
-
--- the value of a member that must stand once
-abbrev pub needed_by : Member → Found → Result Tree OrderFault
-needed_by m absent = Err (Missing m)
-needed_by m (once t) = Ok t
-needed_by m again = Err (Twice m)
-
-abbrev pub needed : Member → List Entry → Result Tree OrderFault
-needed m es = needed_by m (find_member (member_word m) es)
-
--- the value of a member that may stand once
-abbrev pub optional_by : Member → Found → Result (Option Tree) OrderFault
-optional_by m absent = Ok None
-optional_by m (once t) = Ok (Some t)
-optional_by m again = Err (Twice m)
-
-abbrev pub optional : Member → List Entry → Result (Option Tree) OrderFault
-optional m es = optional_by m (find_member (member_word m) es)
 
 -- what the value says, or what is taken where there is none
 abbrev pub or_absent : {A : Type 0} → A → (Tree → Result A OrderFault) → Option Tree → Result A OrderFault
@@ -74,9 +55,6 @@ late_of method es = optional members.LateIsha es >>= or_absent [] (late_in metho
 
 abbrev pub sun_of : List Entry → Result SunChoice OrderFault
 sun_of es = optional members.Sun es >>= or_absent Usno sun_in
-
-abbrev pub rule_in : Tree → Result (Option NightRule) OrderFault
-rule_in t = night_in t >>= λ rule. Ok (Some rule)
 
 abbrev pub night_of : List Entry → Result (Option NightRule) OrderFault
 night_of es = optional members.Night es >>= or_absent None rule_in

@@ -5,8 +5,8 @@ use Rattle.json_value.specs.Tree.{Tree}
 use Rattle.exact_json.specs.declared.fault.JsonFault.{JsonFault}
 use Rattle.exact_json.specs.declared.fault.JsonFault.TheVariants.{NoMemory}
 use Rattle.order_reader.specs.Reading.{order_in}
-use Rattle.order_reader.specs.declared.fault.OrderFault.{OrderFault}
-use Rattle.order_reader.specs.declared.fault.OrderFault.TheVariants.{Json, NoMemory as OutOfMemory}
+use Rattle.order_member.specs.declared.fault.OrderFault.{OrderFault}
+use Rattle.order_member.specs.declared.fault.OrderFault.TheVariants.{Json, NoMemory as OutOfMemory}
 use Rattle.order_rule.specs.Asked.{Asked}
 use Rattle.order_rule.specs.Rule.{IsOrder}
 

@@ -1,8 +1,8 @@
 // Orders, read from JSON.
 ghost use Rattle.std.specs.Prelude.{◌≡◌, ◌⊎◌, ◌≤◌, true, Ok, Err, IfOk, IfErr};
 ghost use Rattle.json_value.specs.View.{entries_of, tree_of};
-ghost use Rattle.order_reader.specs.Gives.{Gives};
-ghost use Rattle.order_reader.specs.Members.{asr_in, days_in, from_in, height_in, late_in, method_in, offsets_in, sun_in, zone_in};
+ghost use Rattle.order_member.specs.Gives.{Gives};
+ghost use Rattle.order_member.specs.Members.{asr_in, days_in, from_in, height_in, late_in, method_in, offsets_in, sun_in, zone_in};
 ghost use Rattle.order_reader.specs.Parts.{basis_view, extras_view};
 ghost use Rattle.order_reader.specs.Reading.{asked_by, basis_of, district_in, district_of, extras_of, height_of, late_of, night_of, order_in, order_of, sun_of};
 ghost use Rattle.order_rule.specs.Asked.{asked_of};
@@ -10,17 +10,15 @@ ghost use Rattle.order_rule.specs.Late.{may_be_late};
 ghost use Rattle.ring_survey.specs.Vectors.{polygons_in};
 ghost use Rattle.order_reader.specs.Reads.{ReadsOrder, json_refusal};
 
-use crate::fault::{Member, OrderFault};
-use crate::late::late_in;
-use crate::members::{
-    asr_in, days_in, from_in, height_in, method_in, needed, offsets_in, optional, rule_in, sun_in,
-    zone_in,
-};
 use crate::parts::{Basis, Extras};
 use exact_json::{Json, JsonFault, JsonTable, read};
 use geo_json::{GeometryFault, object_in, read_geometry};
 use method_table::Method;
 use night_rule::NightRule;
+use order_member::{
+    Member, OrderFault, asr_in, days_in, from_in, height_in, late_in, method_in, needed,
+    offsets_in, optional, rule_in, sun_in, zone_in,
+};
 use order_rule::{Order, Ranges};
 use region::{District, RegionFault};
 use std::alloc::Global;
@@ -47,7 +45,7 @@ pub fn basis_of(alloc: Global, table: &JsonTable) -> Result<Basis, OrderFault>
     })
 }
 
-#[tactic(auto, unfolding(crate::specs::Members::height_in))]
+#[tactic(auto, unfolding(order_member::specs::Members::height_in))]
 fn height_of(table: &JsonTable) -> Result<u32, OrderFault>
     ensures given { Gives (λ height. height) result (height_of (entries_of table.now)) }
     ensures low { IfOk result (λ height. height ≤ 9000) }

@@ -5,7 +5,7 @@ use Rattle.std.proofs.lemmas.Int.{ints}
 use Rattle.std.specs.List.{list_all}
 use Rattle.jiff_core.specs.Calendar.{days_from_civil, days_in_month}
 use Rattle.jiff_tz.specs.Year.{year_of_day}
-use Rattle.order_reader.specs.Dates.{day_of, ymd_in}
+use Rattle.order_member.specs.Dates.{day_of, ymd_in}
 use Rattle.order_rule.proofs.SignedLemmas.{between}
 use Rattle.order_rule.specs.Offsets.{first_day, is_day, last_day}
 use Rattle.year_table.proofs.CivilLemmas.{IsDated, dated, two_bytes, two_read}

@@ -11,9 +11,10 @@ use Rattle.night_rule.specs.declared.rule.NightRule.{NightRule}
 use Rattle.geo_json.proofs.LookupLemmas.{entries_in_before, items_in_before}
 use Rattle.geo_json.specs.Geometry.{each_in, line_district_of}
 use Rattle.geo_json.specs.Lookup.{values_named}
-use Rattle.order_reader.specs.Reading.{Basis, Extras, basis_of, needed}
-use Rattle.order_reader.specs.declared.fault.Member.TheVariants as members
-use Rattle.order_reader.specs.declared.fault.OrderFault.{OrderFault}
+use Rattle.order_member.specs.Standing.{needed}
+use Rattle.order_reader.specs.Reading.{Basis, Extras, basis_of}
+use Rattle.order_member.specs.declared.fault.Member.TheVariants as members
+use Rattle.order_member.specs.declared.fault.OrderFault.{OrderFault}
 use Rattle.order_rule.specs.Asked.{Asked}
 use Rattle.ring_survey.specs.Each.{each_of}
 use Rattle.order_rule.specs.Late.{is_empty}

@@ -4,16 +4,18 @@ use Rattle.std.specs.Prelude.{nat_le}
 use Rattle.std.specs.Option.{ok_or}
 use Rattle.json_value.specs.Tree.{Tree, Entry}
 use Rattle.method_table.specs.declared.method.Method.{Method}
-use Rattle.order_reader.proofs.GivenSteps.{gave}
-use Rattle.order_reader.proofs.RuleKept.{KeepsExtras, basis_kept, extras_by, height_kept, kept_by, late_kept, parts_kept, sound_by}
+use Rattle.order_member.proofs.GivenSteps.{gave}
+use Rattle.order_member.proofs.MembersKept.{height_kept, late_kept}
+use Rattle.order_reader.proofs.RuleKept.{KeepsExtras, basis_kept, extras_by, kept_by, parts_kept, sound_by}
 use Rattle.geo_json.specs.Geometry.{line_district_of}
-use Rattle.order_reader.specs.Gives.{◌>>=◌}
+use Rattle.order_member.specs.Gives.{◌>>=◌}
 use Rattle.geo_json.specs.Lookup.{list_in, object_in}
-use Rattle.order_reader.specs.Members.{height_in, late_in, sun_in}
-use Rattle.order_reader.specs.Reading.{Extras, asked_by, basis_of, needed, rule_in}
-use Rattle.order_reader.specs.declared.fault.Member.TheVariants as members
-use Rattle.order_reader.specs.declared.fault.OrderFault.{OrderFault}
-use Rattle.order_reader.specs.declared.fault.OrderFault.TheVariants.{Kind}
+use Rattle.order_member.specs.Members.{height_in, late_in, rule_in, sun_in}
+use Rattle.order_member.specs.Standing.{needed}
+use Rattle.order_reader.specs.Reading.{Extras, asked_by, basis_of}
+use Rattle.order_member.specs.declared.fault.Member.TheVariants as members
+use Rattle.order_member.specs.declared.fault.OrderFault.{OrderFault}
+use Rattle.order_member.specs.declared.fault.OrderFault.TheVariants.{Kind}
 use Rattle.order_rule.specs.Asked.{Asked}
 use Rattle.order_rule.specs.Late.{may_be_late}
 use Rattle.order_rule.specs.Rule.{IsOrder}

@@ -16,8 +16,7 @@ use Rattle.night_rule.specs.Rule.{night_word}
 use Rattle.night_rule.specs.declared.rule.NightRule.{NightRule}
 use Rattle.night_rule.specs.declared.rule.NightRule.TheVariants.{Half, Seventh, ByAngle}
 use Rattle.geo_json.proofs.LookupLemmas.{items_in_before}
-use Rattle.order_reader.specs.Members.{asr_in, days_in, from_in, height_in, late_in, method_in, offsets_in, pair_in, range_of, sun_in, whole_within, zone_in}
-use Rattle.order_reader.specs.Reading.{rule_in}
+use Rattle.order_member.specs.Members.{asr_in, days_in, from_in, height_in, late_in, method_in, offsets_in, pair_in, range_of, rule_in, sun_in, whole_within, zone_in}
 use Rattle.order_rule.proofs.OffsetLemmas.{offset_in_range}
 use Rattle.ring_survey.specs.Each.{each_of}
 use Rattle.order_rule.specs.Late.{is_empty, is_makkah, is_range, may_be_late}

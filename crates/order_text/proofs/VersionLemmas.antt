@@ -6,18 +6,19 @@ use Rattle.std.proofs.lemmas.Int.{ints}
 use Rattle.std.specs.Option.{ok_or}
 use Rattle.json_value.specs.Tree.{Tree, Entry}
 use Rattle.night_rule.specs.declared.rule.NightRule.{NightRule}
-use Rattle.order_reader.proofs.GivenSteps.{gave}
+use Rattle.order_member.proofs.GivenSteps.{gave}
 use Rattle.order_rule.specs.Asked.{Asked}
 use Rattle.exact_decimal.specs.Micro.{whole_of}
 use Rattle.method_table.specs.declared.method.Method.{Method}
-use Rattle.order_reader.specs.Gives.{◌>>=◌}
+use Rattle.order_member.specs.Gives.{◌>>=◌}
 use Rattle.geo_json.specs.Lookup.{number_in, object_in}
-use Rattle.order_reader.specs.Members.{height_in, late_in, sun_in, whole_within}
-use Rattle.order_reader.specs.Reading.{Basis, Extras, asked_by, basis_of, needed, rule_in}
-use Rattle.order_reader.specs.declared.fault.Member.{Member}
-use Rattle.order_reader.specs.declared.fault.Member.TheVariants as members
-use Rattle.order_reader.specs.declared.fault.OrderFault.{OrderFault}
-use Rattle.order_reader.specs.declared.fault.OrderFault.TheVariants.{Kind, Range}
+use Rattle.order_member.specs.Members.{height_in, late_in, rule_in, sun_in, whole_within}
+use Rattle.order_member.specs.Standing.{needed}
+use Rattle.order_reader.specs.Reading.{Basis, Extras, asked_by, basis_of}
+use Rattle.order_member.specs.declared.fault.Member.{Member}
+use Rattle.order_member.specs.declared.fault.Member.TheVariants as members
+use Rattle.order_member.specs.declared.fault.OrderFault.{OrderFault}
+use Rattle.order_member.specs.declared.fault.OrderFault.TheVariants.{Kind, Range}
 use Rattle.order_text.specs.Line.{is_plain, version_by, version_of}
 use Rattle.order_text.specs.LineLaws.{VersionsAreLeast}
 use Rattle.order_text.specs.LineReading.{line_district, line_extras_of, line_order_in, line_order_of, since, version_in}

@@ -2,12 +2,12 @@
 use Rattle.std.specs.Prelude.{◌≡◌, ℕ, ◌≤◌, List, Result, Ok}
 use Rattle.std.specs.Option.{ok_or}
 use Rattle.json_value.specs.Tree.{Tree}
-use Rattle.order_reader.specs.Gives.{◌>>=◌}
+use Rattle.order_member.specs.Gives.{◌>>=◌}
 use Rattle.geo_json.specs.Lookup.{object_in}
-use Rattle.order_reader.specs.Reading.{needed}
-use Rattle.order_reader.specs.declared.fault.Member.TheVariants.{Order, Version}
-use Rattle.order_reader.specs.declared.fault.OrderFault.{OrderFault}
-use Rattle.order_reader.specs.declared.fault.OrderFault.TheVariants.{Kind}
+use Rattle.order_member.specs.Standing.{needed}
+use Rattle.order_member.specs.declared.fault.Member.TheVariants.{Order, Version}
+use Rattle.order_member.specs.declared.fault.OrderFault.{OrderFault}
+use Rattle.order_member.specs.declared.fault.OrderFault.TheVariants.{Kind}
 use Rattle.order_rule.specs.Asked.{Asked}
 use Rattle.order_rule.specs.Rule.{IsOrder}
 use Rattle.order_text.specs.Line.{order_body, version_of}

@@ -5,15 +5,16 @@ use Rattle.std.specs.Option.{ok_or}
 use Rattle.json_value.specs.Tree.{Tree, Entry}
 use Rattle.method_table.specs.declared.method.Method.{Method}
 use Rattle.geo_json.specs.Geometry.{line_district_of}
-use Rattle.order_reader.specs.Gives.{◌>>=◌}
+use Rattle.order_member.specs.Gives.{◌>>=◌}
 use Rattle.geo_json.specs.Lookup.{list_in, number_in, object_in}
-use Rattle.order_reader.specs.Members.{height_in, late_in, sun_in, whole_within}
-use Rattle.order_reader.specs.Reading.{Extras, asked_by, basis_of, district_of, needed, rule_in}
+use Rattle.order_member.specs.Members.{height_in, late_in, rule_in, sun_in, whole_within}
+use Rattle.order_member.specs.Standing.{needed}
+use Rattle.order_reader.specs.Reading.{Extras, asked_by, basis_of, district_of}
 use Rattle.order_reader.specs.Reads.{ReadsBy}
-use Rattle.order_reader.specs.declared.fault.Member.{Member}
-use Rattle.order_reader.specs.declared.fault.Member.TheVariants as members
-use Rattle.order_reader.specs.declared.fault.OrderFault.{OrderFault}
-use Rattle.order_reader.specs.declared.fault.OrderFault.TheVariants.{Kind, Range, Geometry}
+use Rattle.order_member.specs.declared.fault.Member.{Member}
+use Rattle.order_member.specs.declared.fault.Member.TheVariants as members
+use Rattle.order_member.specs.declared.fault.OrderFault.{OrderFault}
+use Rattle.order_member.specs.declared.fault.OrderFault.TheVariants.{Kind, Range, Geometry}
 use Rattle.order_rule.specs.Asked.{Asked}
 use Rattle.ring_survey.specs.Polygons.{Polygon}
 use Rattle.sun_choice.specs.declared.choice.SunChoice.TheVariants.{Usno}

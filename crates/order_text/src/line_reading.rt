@@ -1,11 +1,10 @@
 // Canonical lines, read again.
 ghost use Rattle.std.specs.Prelude.{◌≡◌, ◌⊎◌, ◌≤◌, true, [], None, Ok, Err, IfOk, IfErr};
 ghost use Rattle.json_value.specs.View.{entries_of, tree_of};
-ghost use Rattle.order_reader.specs.Gives.{Gives};
-ghost use Rattle.order_reader.specs.Members.{height_in, late_in, sun_in};
+ghost use Rattle.order_member.specs.Gives.{Gives};
+ghost use Rattle.order_member.specs.Members.{height_in, late_in, rule_in, sun_in};
 ghost use Rattle.order_reader.specs.Parts.{extras_view};
-ghost use Rattle.order_reader.specs.Reading.{rule_in};
-ghost use Rattle.order_reader.specs.declared.fault.Member.TheVariants as members;
+ghost use Rattle.order_member.specs.declared.fault.Member.TheVariants as members;
 ghost use Rattle.order_rule.specs.Asked.{asked_of};
 ghost use Rattle.order_rule.specs.Late.{may_be_late};
 ghost use Rattle.order_text.specs.LineReading.{ReadsLine, line_district, line_extras_of, line_order_in, line_order_of, since, version_in};

@@ -11,8 +11,8 @@ use Rattle.std.proofs.lemmas.Bool.Decides.{nat_tests}
 use Rattle.json_value.specs.Tree.{Tree, Entry}
 use Rattle.geo_json.specs.Geometry.{features_list}
 use Rattle.order_reader.specs.Reading.{district_of, unless_refused}
-use Rattle.order_reader.specs.declared.fault.OrderFault.{OrderFault}
-use Rattle.order_reader.specs.declared.fault.OrderFault.TheVariants.{NoMemory, Region}
+use Rattle.order_member.specs.declared.fault.OrderFault.{OrderFault}
+use Rattle.order_member.specs.declared.fault.OrderFault.TheVariants.{NoMemory, Region}
 use Rattle.ring_survey.proofs.EachLemmas.{each_length}
 use Rattle.ring_survey.specs.Each.{each_of}
 use Rattle.ring_survey.specs.Faults.{first_fault}

@@ -4,16 +4,18 @@ use Rattle.std.specs.Option.{ok_or}
 use Rattle.json_value.specs.Tree.{Tree, Entry}
 use Rattle.exact_json.specs.declared.fault.JsonFault.{JsonFault}
 use Rattle.night_rule.specs.declared.rule.NightRule.{NightRule}
-use Rattle.order_reader.proofs.GivenSteps.{gave}
+use Rattle.order_member.proofs.GivenSteps.{gave}
 use Rattle.order_reader.proofs.ReadLaws.{answers_agree, some_answer}
-use Rattle.order_reader.proofs.RuleKept.{basis_kept, extras_kept, or_ok, parts_kept}
-use Rattle.order_reader.specs.Gives.{◌>>=◌}
+use Rattle.order_member.proofs.MembersKept.{or_ok}
+use Rattle.order_reader.proofs.RuleKept.{basis_kept, extras_kept, parts_kept}
+use Rattle.order_member.specs.Gives.{◌>>=◌}
 use Rattle.geo_json.specs.Lookup.{object_in}
-use Rattle.order_reader.specs.Reading.{Basis, Extras, asked_by, basis_of, district_of, extras_of, needed}
+use Rattle.order_member.specs.Standing.{needed}
+use Rattle.order_reader.specs.Reading.{Basis, Extras, asked_by, basis_of, district_of, extras_of}
 use Rattle.order_reader.specs.Reads.{answer_by}
-use Rattle.order_reader.specs.declared.fault.Member.TheVariants as members
-use Rattle.order_reader.specs.declared.fault.OrderFault.{OrderFault}
-use Rattle.order_reader.specs.declared.fault.OrderFault.TheVariants.{Geometry, Kind}
+use Rattle.order_member.specs.declared.fault.Member.TheVariants as members
+use Rattle.order_member.specs.declared.fault.OrderFault.{OrderFault}
+use Rattle.order_member.specs.declared.fault.OrderFault.TheVariants.{Geometry, Kind}
 use Rattle.ring_survey.specs.Faults.{first_fault}
 use Rattle.ring_survey.specs.Polygons.{Polygon}
 use Rattle.set_reader.proofs.PartsLemmas.{are_parts, is_district}

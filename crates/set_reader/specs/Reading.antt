@@ -4,12 +4,13 @@ use Rattle.std.specs.Prelude.{List, Option, Some, None, Result, Ok, Err}
 use Rattle.std.specs.Option.{ok_or}
 use Rattle.json_value.specs.Tree.{Tree, Entry}
 use Rattle.night_rule.specs.declared.rule.NightRule.{NightRule}
-use Rattle.order_reader.specs.Gives.{◌>>=◌}
+use Rattle.order_member.specs.Gives.{◌>>=◌}
 use Rattle.geo_json.specs.Lookup.{object_in}
-use Rattle.order_reader.specs.Reading.{asked_by, basis_of, district_of, extras_of, needed}
-use Rattle.order_reader.specs.declared.fault.Member.TheVariants as members
-use Rattle.order_reader.specs.declared.fault.OrderFault.{OrderFault}
-use Rattle.order_reader.specs.declared.fault.OrderFault.TheVariants.{Geometry, Kind, Range, Region}
+use Rattle.order_member.specs.Standing.{needed}
+use Rattle.order_reader.specs.Reading.{asked_by, basis_of, district_of, extras_of}
+use Rattle.order_member.specs.declared.fault.Member.TheVariants as members
+use Rattle.order_member.specs.declared.fault.OrderFault.{OrderFault}
+use Rattle.order_member.specs.declared.fault.OrderFault.TheVariants.{Geometry, Kind, Range, Region}
 use Rattle.ring_survey.specs.Polygons.{Polygon}
 use Rattle.ring_survey.specs.declared.faults.RegionFault.{RegionFault}
 use Rattle.set_reader.specs.Asked.{SetAsked}

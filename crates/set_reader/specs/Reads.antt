@@ -1,7 +1,7 @@
 -- What reading bytes as a set of districts answers: the set of the JSON text that they are, or its first refusal.
 use Rattle.std.specs.Prelude.{◌≡◌, ℕ, List, Result, Ok}
 use Rattle.order_reader.specs.Reads.{ReadsBy}
-use Rattle.order_reader.specs.declared.fault.OrderFault.{OrderFault}
+use Rattle.order_member.specs.declared.fault.OrderFault.{OrderFault}
 use Rattle.set_reader.specs.Asked.{SetAsked}
 use Rattle.set_reader.specs.Reading.{set_in}
 use Rattle.set_reader.specs.Rule.{IsSet}

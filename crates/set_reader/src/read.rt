@@ -1,7 +1,7 @@
 // Sets of districts, read from JSON.
 ghost use Rattle.std.specs.Prelude.{◌≡◌, ◌⊎◌, true, None, Ok, Err, IfOk, IfErr};
 ghost use Rattle.json_value.specs.View.{entries_of, tree_of};
-ghost use Rattle.order_reader.specs.Gives.{Gives};
+ghost use Rattle.order_member.specs.Gives.{Gives};
 ghost use Rattle.ring_survey.specs.Faults.{first_fault};
 ghost use Rattle.set_reader.specs.Asked.{asked_of};
 ghost use Rattle.set_reader.specs.Reading.{districts_in, parts_of, set_in, set_of, without_rule};

@@ -10,8 +10,8 @@ use Rattle.exact_decimal.specs.Micro.{micro_of, whole_of}
 use Rattle.geo_json.specs.Geometry.{form_in, geometry_of, has_doubles, member_in, shape_in}
 use Rattle.geo_json.specs.Lookup.{values_named}
 use Rattle.jiff_core.specs.Calendar.{day_count, days_from_civil, days_of_months, days_of_years}
-use Rattle.order_reader.specs.Dates.{day_of, ymd_in}
-use Rattle.order_reader.specs.Members.{days_in, from_in, offsets_in, zone_in}
+use Rattle.order_member.specs.Dates.{day_of, ymd_in}
+use Rattle.order_member.specs.Members.{days_in, from_in, offsets_in, zone_in}
 use Rattle.order_reader.specs.Reading.{basis_of, district_in, extras_of, order_in, order_of}
 use Rattle.order_rule.specs.Offsets.{offsets_of}
 use Rattle.ring_survey.specs.Each.{each_of}

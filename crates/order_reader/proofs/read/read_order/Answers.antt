@@ -3,7 +3,7 @@ use Rattle.json_value.specs.View.{tree_of}
 use Rattle.order_reader.proofs.ReadLaws.{json_refusal_is, order_is, refusal_is}
 use Rattle.order_reader.specs.Reading.{order_in}
 use Rattle.order_reader.specs.Reads.{ReadsOrder}
-use Rattle.order_reader.specs.declared.fault.OrderFault.TheVariants.{NoMemory}
+use Rattle.order_member.specs.declared.fault.OrderFault.TheVariants.{NoMemory}
 use Rattle.order_reader.proofs.read.read_order.Goals as goal
 use Rattle.order_rule.specs.Asked.{asked_of}
 

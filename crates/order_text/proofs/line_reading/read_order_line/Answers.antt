@@ -1,7 +1,7 @@
 use Rattle.std.proofs.Common.{subst, sym, ◌≡◌, ◌⊎◌, Err}
 use Rattle.json_value.specs.View.{tree_of}
 use Rattle.order_reader.proofs.ReadLaws.{json_refusal_is, order_is, refusal_is}
-use Rattle.order_reader.specs.declared.fault.OrderFault.TheVariants.{NoMemory}
+use Rattle.order_member.specs.declared.fault.OrderFault.TheVariants.{NoMemory}
 use Rattle.order_rule.specs.Asked.{asked_of}
 use Rattle.order_text.specs.LineReading.{line_order_in}
 use Rattle.order_text.specs.LineReading.{ReadsLine}

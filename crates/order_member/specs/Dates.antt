@@ -1,6 +1,6 @@
 -- The dates of an order, as texts.
 use Rattle.std.specs.Prelude.{ℕ, ◌+◌, ◌*◌, ◌==◌, ℤ, Bool, ◌&&◌, if◌then◌else◌, List, length, slice_index, Option, Some, None, option_and_then}
-use Rattle.order_reader.specs.declared.date.Ymd.{Ymd}
+use Rattle.order_member.specs.declared.date.Ymd.{Ymd}
 use Rattle.year_table.specs.Dates.{civil_day, two_digits_at}
 use Rattle.order_rule.specs.Offsets.{is_day}
 

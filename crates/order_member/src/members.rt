@@ -1,10 +1,10 @@
 // What the members of an order say.
 ghost use Rattle.std.specs.Prelude.{◌≡◌, length, ◌≤◌, ◌≤ℤ◌, ◌+ℤ◌, pos, true, IfOk, Result, option_map};
 ghost use Rattle.json_value.specs.View.{tree_of, entries_of};
-ghost use Rattle.order_reader.specs.Gives.{Gives};
+ghost use Rattle.order_member.specs.Gives.{Gives};
 ghost use Rattle.geo_json.specs.Lookup.{list_in, number_in, text_in};
-ghost use Rattle.order_reader.specs.Members.{asr_in, asr_of, days_in, from_in, height_in, method_in, night_in, offsets_in, sun_in, whole_within, zone_in, zone_of_number, zone_of_text};
-ghost use Rattle.order_reader.specs.Reading.{needed, optional, rule_in};
+ghost use Rattle.order_member.specs.Members.{asr_in, asr_of, days_in, from_in, height_in, method_in, night_in, offsets_in, rule_in, sun_in, whole_within, zone_in, zone_of_number, zone_of_text};
+ghost use Rattle.order_member.specs.Standing.{needed, optional};
 ghost use Rattle.order_rule.specs.Offsets.{first_day, is_day, is_zone, last_day, offsets_of};
 
 use crate::date::{day_of, ymd_in};
@@ -30,10 +30,7 @@ pub fn needed<'a>(table: &'a JsonTable, member: Member) -> Result<&'a Json, Orde
 }
 
 /// The value of a member that may stand once.
-pub(crate) fn optional<'a>(
-    table: &'a JsonTable,
-    member: Member,
-) -> Result<Option<&'a Json>, OrderFault>
+pub fn optional<'a>(table: &'a JsonTable, member: Member) -> Result<Option<&'a Json>, OrderFault>
     ensures { Gives (option_map (λ v. tree_of v.now)) result (optional member (entries_of table.now)) }
 {
     match find_member(table, member_word(member)) {
@@ -55,9 +52,9 @@ pub fn whole_within(number: &Decimal, low: i64, high: i64) -> Option<i64>
     }
 }
 
-/// The first day.
+/// The first day, since 1970-01-01, of a date from 1900-01-01 to 2100-12-31.
 #[tactic(auto, unfolding(crate::specs::Members::from_in))]
-pub(crate) fn from_in(value: &Json) -> Result<i32, OrderFault>
+pub fn from_in(value: &Json) -> Result<i32, OrderFault>
     ensures given { Gives (λ day. day) result (from_in (tree_of value.now)) }
     ensures range { IfOk result (λ day. is_day day ≡ true) }
 {
@@ -70,9 +67,9 @@ pub(crate) fn from_in(value: &Json) -> Result<i32, OrderFault>
     }
 }
 
-/// How many days, the last of which is an order's too.
+/// How many days, 1 to 366, the last of which is an order's too.
 #[tactic(auto, unfolding(crate::specs::Members::days_in))]
-pub(crate) fn days_in(value: &Json, from_day: i32) -> Result<u32, OrderFault>
+pub fn days_in(value: &Json, from_day: i32) -> Result<u32, OrderFault>
     ensures given { Gives (λ days. days) result (days_in from_day (tree_of value.now)) }
     ensures some { IfOk result (λ days. 1 ≤ days) }
     ensures few { IfOk result (λ days. days ≤ 366) }
@@ -87,7 +84,8 @@ pub(crate) fn days_in(value: &Json, from_day: i32) -> Result<u32, OrderFault>
     }
 }
 
-pub(crate) fn method_in(value: &Json) -> Result<Method, OrderFault>
+/// The method.
+pub fn method_in(value: &Json) -> Result<Method, OrderFault>
     ensures { Gives (λ method. method) result (method_in (tree_of value.now)) }
 {
     let Some(word) = text_in(value) else {
@@ -108,7 +106,8 @@ fn asr_of(word: &str) -> Option<Asr>
         .find(|asr| asr_word(*asr) == word)
 }
 
-pub(crate) fn asr_in(value: &Json) -> Result<Asr, OrderFault>
+/// The rule for Asr.
+pub fn asr_in(value: &Json) -> Result<Asr, OrderFault>
     ensures { Gives (λ asr. asr) result (asr_in (tree_of value.now)) }
 {
     let Some(word) = text_in(value) else {
@@ -145,8 +144,9 @@ fn zone_of_text(alloc: Global, text: &str) -> Result<Zone, OrderFault>
     }
 }
 
+/// The zone of the clock: minutes east of Universal Time, -720 to 840, or the text of a rule.
 #[tactic(auto, unfolding(crate::specs::Members::zone_in))]
-pub(crate) fn zone_in(alloc: Global, value: &Json) -> Result<Zone, OrderFault>
+pub fn zone_in(alloc: Global, value: &Json) -> Result<Zone, OrderFault>
     ensures given { Gives (λ zone. zone) result (zone_in (tree_of value.now)) }
     ensures known { IfOk result (λ zone. is_zone zone ≡ true) }
 {
@@ -159,9 +159,9 @@ pub(crate) fn zone_in(alloc: Global, value: &Json) -> Result<Zone, OrderFault>
     }
 }
 
-/// The offset of each day.
+/// The offset of each day, in minutes east of Universal Time.
 #[tactic(auto, unfolding(crate::specs::Members::offsets_in))]
-pub(crate) fn offsets_in(
+pub fn offsets_in(
     alloc: Global,
     zone: &Zone,
     from_day: i32,
@@ -179,7 +179,7 @@ pub(crate) fn offsets_in(
     }
 }
 
-/// The height, in metres.
+/// The height, in metres, 0 to 9,000.
 #[tactic(auto, unfolding(crate::specs::Members::height_in))]
 pub fn height_in(value: &Json) -> Result<u32, OrderFault>
     ensures given { Gives (λ height. height) result (height_in (tree_of value.now)) }

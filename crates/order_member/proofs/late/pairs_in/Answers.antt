@@ -1,8 +1,8 @@
 use Rattle.std.proofs.Common.{◌≤◌, ◌∙◌, sym, length, arith}
 use Rattle.json_value.specs.View.{items_of, tree_of}
 use Rattle.geo_json.proofs.GeometryLemmas.{no_more, none_here, one_more}
-use Rattle.order_reader.specs.Members.{pair_in}
-use Rattle.order_reader.proofs.late.pairs_in.Goals as goal
+use Rattle.order_member.specs.Members.{pair_in}
+use Rattle.order_member.proofs.late.pairs_in.Goals as goal
 
 pub returns-in-None : goal.returns-in-None
 returns-in-None c =

@@ -1,7 +1,7 @@
 use Rattle.std.proofs.Common.{◌≡◌, drop}
 use Rattle.json_value.specs.View.{items_of}
-use Rattle.order_reader.specs.Members.{pair_in}
-use Rattle.order_reader.proofs.late.pairs_in.Given as goal
+use Rattle.order_member.specs.Members.{pair_in}
+use Rattle.order_member.proofs.late.pairs_in.Given as goal
 use Rattle.ring_survey.proofs.EachLemmas.{with_front}
 use Rattle.ring_survey.specs.Each.{each_of}
 

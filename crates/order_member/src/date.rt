@@ -1,6 +1,6 @@
 // Dates as texts.
 ghost use Rattle.std.specs.Prelude.{◌≡◌, IfSome, true};
-ghost use Rattle.order_reader.specs.Dates.{day_of, ymd_in};
+ghost use Rattle.order_member.specs.Dates.{day_of, ymd_in};
 ghost use Rattle.order_rule.specs.Offsets.{is_day};
 
 use order_rule::is_day;

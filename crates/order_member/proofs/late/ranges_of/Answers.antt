@@ -1,9 +1,9 @@
 use Rattle.std.proofs.Common.{◌∙◌, sym, get_or}
 use Rattle.std.proofs.lemmas.Option.{slice_get-get_or}
 use Rattle.geo_json.proofs.GeometryLemmas.{no_more, none_here, one_more}
-use Rattle.order_reader.specs.Members.{range_of}
-use Rattle.order_reader.specs.declared.date.Ymd.{Ymd}
-use Rattle.order_reader.proofs.late.ranges_of.Goals as goal
+use Rattle.order_member.specs.Members.{range_of}
+use Rattle.order_member.specs.declared.date.Ymd.{Ymd}
+use Rattle.order_member.proofs.late.ranges_of.Goals as goal
 
 abbrev nothing : Ymd × Ymd
 nothing = (record { year = 0; month = 0; day = 0 }, record { year = 0; month = 0; day = 0 })

@@ -1,8 +1,8 @@
 // Ranges of dates on which Isha is later.
 ghost use Rattle.std.specs.Prelude.{◌≡◌, true, IfOk, option_map};
 ghost use Rattle.json_value.specs.View.{items_of, tree_of};
-ghost use Rattle.order_reader.specs.Gives.{Gives};
-ghost use Rattle.order_reader.specs.Members.{late_in, pair_in, range_of};
+ghost use Rattle.order_member.specs.Gives.{Gives};
+ghost use Rattle.order_member.specs.Members.{late_in, pair_in, range_of};
 ghost use Rattle.ring_survey.specs.Each.{each_of};
 ghost use Rattle.order_rule.specs.Late.{may_be_late};
 

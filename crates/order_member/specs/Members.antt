@@ -9,18 +9,18 @@ use Rattle.method_table.specs.declared.method.Asr.TheVariants.{Standard, Hanafi}
 use Rattle.method_table.specs.declared.method.Method.{Method}
 use Rattle.night_rule.specs.Rule.{night_rule_of}
 use Rattle.night_rule.specs.declared.rule.NightRule.{NightRule}
-use Rattle.order_reader.specs.Dates.{day_of, ymd_in}
-use Rattle.order_reader.specs.declared.date.Ymd.{Ymd}
-use Rattle.order_reader.specs.Gives.{◌>>=◌}
+use Rattle.order_member.specs.Dates.{day_of, ymd_in}
+use Rattle.order_member.specs.declared.date.Ymd.{Ymd}
+use Rattle.order_member.specs.Gives.{◌>>=◌}
 use Rattle.geo_json.specs.Lookup.{list_in, number_in, text_in}
 use Rattle.ring_survey.specs.Each.{each_of}
 use Rattle.order_rule.specs.Late.{may_be_late}
 use Rattle.order_rule.specs.Offsets.{last_day, offsets_of}
 use Rattle.exact_decimal.specs.Micro.{whole_of}
-use Rattle.order_reader.specs.declared.fault.Member.{Member}
-use Rattle.order_reader.specs.declared.fault.Member.TheVariants.{From, Days, Method as MethodName, Asr as AsrName, Zone as ZoneName, Height, LateIsha, Sun, Night}
-use Rattle.order_reader.specs.declared.fault.OrderFault.{OrderFault}
-use Rattle.order_reader.specs.declared.fault.OrderFault.TheVariants.{Kind, Range}
+use Rattle.order_member.specs.declared.fault.Member.{Member}
+use Rattle.order_member.specs.declared.fault.Member.TheVariants.{From, Days, Method as MethodName, Asr as AsrName, Zone as ZoneName, Height, LateIsha, Sun, Night}
+use Rattle.order_member.specs.declared.fault.OrderFault.{OrderFault}
+use Rattle.order_member.specs.declared.fault.OrderFault.TheVariants.{Kind, Range}
 use Rattle.sun_choice.specs.Choice.{sun_of}
 use Rattle.year_table.specs.Rules.{is_rule}
 use Rattle.sun_choice.specs.declared.choice.SunChoice.{SunChoice}
@@ -110,3 +110,7 @@ sun_in t = word_in Sun sun_of t
 
 abbrev pub night_in : Tree → Result NightRule OrderFault
 night_in t = word_in Night night_rule_of t
+
+-- the same, where a rule may be lacking
+abbrev pub rule_in : Tree → Result (Option NightRule) OrderFault
+rule_in t = night_in t >>= λ rule. Ok (Some rule)

@@ -1,7 +1,7 @@
 -- What comes first of two steps that succeed.
 use Rattle.std.proofs.Common.{◌≡◌, Result, Ok, Err, refl}
-use Rattle.order_reader.specs.Gives.{◌>>=◌}
-use Rattle.order_reader.specs.declared.fault.OrderFault.{OrderFault}
+use Rattle.order_member.specs.Gives.{◌>>=◌}
+use Rattle.order_member.specs.declared.fault.OrderFault.{OrderFault}
 
 -- the first step gave a value, and the second what both gave
 pub record Gave {A B : Type 0} (r : Result A OrderFault) (f : A → Result B OrderFault) (y : B) : Type 0 where

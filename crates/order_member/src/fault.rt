@@ -1,7 +1,7 @@
 // Why bytes are no order.
 ghost use Rattle.std.specs.Prelude.{◌≡◌};
-ghost use Rattle.order_reader.specs.Words.{member_word};
-ghost use Rattle.order_reader.specs.declared.fault.OrderFault.TheVariants.{NoMemory as OutOfMemory};
+ghost use Rattle.order_member.specs.Words.{member_word};
+ghost use Rattle.order_member.specs.declared.fault.OrderFault.TheVariants.{NoMemory as OutOfMemory};
 
 use exact_json::JsonFault;
 use no_memory::NoMemory;

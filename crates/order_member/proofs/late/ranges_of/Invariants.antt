@@ -1,6 +1,6 @@
 use Rattle.std.proofs.Common.{◌≡◌, drop}
-use Rattle.order_reader.specs.Members.{range_of}
-use Rattle.order_reader.proofs.late.ranges_of.Given as goal
+use Rattle.order_member.specs.Members.{range_of}
+use Rattle.order_member.proofs.late.ranges_of.Given as goal
 use Rattle.ring_survey.proofs.EachLemmas.{with_front}
 use Rattle.ring_survey.specs.Each.{each_of}
 

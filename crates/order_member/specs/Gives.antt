@@ -1,7 +1,7 @@
 -- Answers and refusals, and what a call gives of them.
 use Rattle.std.specs.Prelude.{◌≡◌, ◌⊎◌, Result, Ok, Err}
-use Rattle.order_reader.specs.declared.fault.OrderFault.{OrderFault}
-use Rattle.order_reader.specs.declared.fault.OrderFault.TheVariants.{NoMemory}
+use Rattle.order_member.specs.declared.fault.OrderFault.{OrderFault}
+use Rattle.order_member.specs.declared.fault.OrderFault.TheVariants.{NoMemory}
 
 -- the first refusal of steps one after another
 infixl 10 ◌>>=◌

@@ -1,7 +1,7 @@
 -- The words of the members.
 use Rattle.std.specs.Prelude.{ℕ, List, codes}
-use Rattle.order_reader.specs.declared.fault.Member.{Member}
-use Rattle.order_reader.specs.declared.fault.Member.TheVariants.{Order, Version, From, Days, Method, Asr, Zone, Height, LateIsha, Sun, Night, District}
+use Rattle.order_member.specs.declared.fault.Member.{Member}
+use Rattle.order_member.specs.declared.fault.Member.TheVariants.{Order, Version, From, Days, Method, Asr, Zone, Height, LateIsha, Sun, Night, District}
 
 abbrev pub member_word : Member → List ℕ
 member_word Order = codes "order"

@@ -1,0 +1,2 @@
+pub mod GivenSteps
+pub mod MembersKept
