@@ -21,7 +21,7 @@ use Rattle.plain_search.proofs.Greatest.{greatest-append, greatest_none, greates
 use Rattle.plain_search.proofs.OpenLeaves.{harvested_open, leaves_in_root, open_above}
 use Rattle.search_worker.specs.OpenRanks.{AreOpenRanks}
 use Rattle.search_worker.specs.Owing.{AreSeen, IsTold, Owes, below, job_of}
-use Rattle.steal_pool.specs.Crews.{roots_to}
+use Rattle.search_crew.specs.Crews.{roots_to}
 use Rattle.steal_pool.specs.Found.{AreAllTopOrdinals, AreFacts, IsFound}
 
 -- the roots weigh what all leaves weigh

@@ -9,8 +9,8 @@ use Rattle.crossbeam_deque.specs.Handles.{worker_deque}
 use Rattle.search_worker.specs.declared.member.Member.{Member}
 use Rattle.search_worker.specs.declared.refutes.Refutes.{Refutes}
 use Rattle.search_worker.specs.Workers.{HasInHand, IsMemberOf, IsSameMember}
-use Rattle.steal_pool.specs.Crews.{IsCrew, IsOfCrew, IsPartOfOne, OweRoots, SameOwners, given_to, owners_in}
-use Rattle.steal_pool.proofs.Places.{All-of_map, map_same, map_twice}
+use Rattle.search_crew.specs.Crews.{IsCrew, IsOfCrew, IsPartOfOne, OweRoots, SameOwners, given_to, owners_in}
+use Rattle.search_crew.proofs.Places.{All-of_map, map_same, map_twice}
 use Rattle.task_deque.specs.declared.handles.Owner.{Owner}
 use Rattle.task_deque.specs.declared.handles.Thief.{Thief}
 use Rattle.task_deque.specs.Ends.{thief_log}

@@ -3,12 +3,9 @@
 #![tactic(auto)]
 
 mod calls;
-mod crew;
-mod deques;
-mod ending;
 mod gate;
-mod joined;
 mod stealing;
+mod threads;
 
 pub use calls::{search, search_ranks};
 pub use gate::{Gate, OpenGate};

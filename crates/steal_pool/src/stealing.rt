@@ -1,20 +1,19 @@
 // The search by several workers, each with a deque of its own, who steal from each other.
-ghost use Rattle.std.specs.Prelude.{◌≡◌, ◌<◌, ◌≤◌, [], false, All, IfOk, length};
+ghost use Rattle.std.specs.Prelude.{◌≡◌, ◌<◌, ◌≤◌, [], IfOk, length};
 ghost use Rattle.bound_word.specs.Bounds.{IsSeatOf, count_of, seen};
 ghost use Rattle.plain_search.specs.Harvests.{ordinals_of};
 ghost use Rattle.search_worker.specs.Owing.{AreSeen};
-ghost use Rattle.steal_pool.specs.Crews.{IsCrew, OweRoots, roots_to};
-ghost use Rattle.steal_pool.specs.Endings.{JoinedOwes};
+ghost use Rattle.search_crew.specs.Crews.{roots_to};
+ghost use Rattle.search_crew.specs.Endings.{JoinedOwes};
 ghost use Rattle.steal_pool.specs.Found.{AreFacts, IsFound};
 
-use crate::crew::{crew_of, lack_memory, run};
-use crate::ending::{apart, close_all};
 use crate::gate::{Gate, Gated};
-use crate::joined::Joined;
+use crate::threads::{lack_memory, run_crew};
 use bound_word::{Bound, BoundSeat};
 use cell_split::Judge;
 use no_memory::NoMemory;
-use search_worker::{Member, Refutes, Store};
+use search_crew::{Joined, close_crew, crew_of};
+use search_worker::{Refutes, Store};
 use std::alloc::Global;
 use std::sync::Wait;
 use std::thread::Threads;
@@ -47,29 +46,16 @@ pub(crate) fn search_in<
     if lack_memory(&members) {
         return Err(NoMemory);
     }
-    let ended = apart(alloc, &bound, seat, judge.problems(), members)?;
-    let joined = close_all(rt, &Gated::new(judge, gate, 0), &bound, ended)?;
+    let joined = close_crew(
+        rt,
+        alloc,
+        &Gated::new(judge, gate, 0),
+        &bound,
+        seat,
+        members,
+    )?;
     let found = found_by(alloc, judge, &bound, joined)?;
     Ok(found)
-}
-
-// Runs all workers: they are as many as before, and owe what they owed.
-fn run_crew<
-    C: Case + Send + Sync,
-    S: Store + Send,
-    R: Threads + Wait + Sync,
-    J: Judge + Sync,
-    G: Gate + Sync,
->(rt: &R, judge: &J, gate: &G, bound: &Bound<Refutes<C>>, members: &mut Vec<Member<C, S>>)
-    requires case { J.content judge.now ≡ C.case }
-    requires count { count_of bound.now ≡ C.case.problems }
-    requires some { 1 ≤ length members.old.items }
-    requires few { length members.old.items ≤ 16 }
-    requires crew { IsCrew bound.now members.old.items }
-    ensures crew { IsCrew bound.now members.new.items }
-    ensures owes { All (λ m. m.lacks_memory ≡ false) members.new.items → OweRoots C.case (S.keeps C.case.problems) members.old.items → OweRoots C.case (S.keeps C.case.problems) members.new.items }
-{
-    run(rt, judge, gate, bound, members.as_mut_slice());
 }
 
 // What all workers have found, once nothing stands in a deque.

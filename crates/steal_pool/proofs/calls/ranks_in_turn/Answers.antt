@@ -3,7 +3,7 @@ use Rattle.cell_split.specs.Tree.{leaves, root_task}
 use Rattle.plain_search.specs.declared.ranks_alone.TopRanks.{TopRanks}
 use Rattle.plain_search.specs.Harvests.{ordinal_of}
 use Rattle.plain_search.specs.TopRanks.{AreTopOrdinals}
-use Rattle.steal_pool.proofs.Places.{each_push}
+use Rattle.search_crew.proofs.Places.{each_push}
 use Rattle.steal_pool.proofs.calls.ranks_in_turn.Goals as goal
 
 pub loop-problem-preserved : goal.loop-problem-preserved

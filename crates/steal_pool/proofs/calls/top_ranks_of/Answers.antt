@@ -4,7 +4,7 @@ use Rattle.plain_search.specs.Harvests.{ordinal_of}
 use Rattle.plain_search.specs.TopRanks.{above}
 use Rattle.plain_search.specs.declared.ranks_alone.TopRanks.{TopRanks}
 use Rattle.steal_pool.proofs.Finding.{IsTopOf, top_ordinals}
-use Rattle.steal_pool.proofs.Places.{each_push}
+use Rattle.search_crew.proofs.Places.{each_push}
 use Rattle.steal_pool.proofs.calls.top_ranks_of.Goals as goal
 
 pub loop-problem-preserved : goal.loop-problem-preserved
