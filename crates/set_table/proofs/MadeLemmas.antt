@@ -1,13 +1,9 @@
 -- What is made ready for a set's table, and the table in pieces.
 use Rattle.std.proofs.Common.{◌≡◌, ℕ, ◌-◌, List, [], ◌∷◌, ◌++◌, length, map, take, drop, refl, sym, ap, ap₂, ◌∙◌, append_assoc, length-append, arith}
-use Rattle.std.specs.List.{AllByRecursion as Every}
-use Rattle.std.proofs.lemmas.List.{length-map, map-append}
-use Rattle.std.proofs.lemmas.List.Elements.{All-from_recursion, All-nil}
 use Rattle.std.proofs.lemmas.Simd.{map-map}
 use Rattle.cell_judge.specs.declared.sky.Sky.{Sky}
 use Rattle.cell_split.specs.declared.cell.Cell.{Cell}
 use Rattle.cell_split.specs.declared.verdict.Entry.{Entry}
-use Rattle.cell_split.proofs.Every.{Every-weaker}
 use Rattle.method_table.specs.Row.{Row, row_of}
 use Rattle.order_table.specs.Made.{day_of}
 use Rattle.order_table.specs.Trees.{entries_of, root_over}
@@ -15,7 +11,9 @@ use Rattle.order_table.specs.declared.day.Day.{Day}
 use Rattle.ring_survey.specs.Polygons.{Polygon}
 use Rattle.set_reader.specs.Asked.{SetAsked}
 use Rattle.sun_choice.specs.declared.choice.SunChoice.{SunChoice}
-use Rattle.set_table.specs.Made.{HaveOneRoot, Scope, entries_over, first_root, scope_of, scope_over, searched}
+use Rattle.set_search.specs.Scopes.{Scope, scope_of, scope_over}
+use Rattle.set_search.specs.Searches.{entries_over}
+use Rattle.set_table.specs.Made.{searched}
 use Rattle.set_table.specs.Ready.{IsReady, found_in, front_of}
 use Rattle.set_table.specs.Table.{SetDay, set_day, set_days_undecided, set_end_line, set_text}
 use Rattle.set_table.specs.Trees.{entries_in, set_of_trees, table_of, tree_set_day, undecided}
@@ -24,9 +22,6 @@ use Rattle.set_table.specs.declared.ready.Ready.{Ready}
 -- ---- skies over the districts of a set
 
 module _ (sun : SunChoice) (root : Cell) (skies : List Sky) (parts : List (List Polygon)) (are : map scope_of skies ≡ map (scope_over sun root) parts) where
-  pub one_each : length skies ≡ length parts
-  one_each = sym (length-map skies scope_of) ∙ ap length are ∙ length-map parts (scope_over sun root)
-
   abbrev found_over : List Row → Scope → List Entry
   found_over rows scope = entries_of scope.sun scope.polygons scope.root rows
 
@@ -40,36 +35,6 @@ module _ (sun : SunChoice) (root : Cell) (skies : List Sky) (parts : List (List 
   searched_all [] = refl
   searched_all (day ∷ rest) =
       ap₂ (λ (d : SetDay) (ds : List SetDay). d ∷ ds) (ap (set_day (day_of day)) (entries_are (map row_of day.problems))) (searched_all rest)
-
--- one sky more, for the first of the districts that are left
-pub skies_more : (sun : SunChoice) (root : Cell) (found : List Sky) (sky : Sky) (part : List Polygon) (left rest : List (List Polygon)) (all : List Scope) →
-    left ≡ part ∷ rest → scope_of sky ≡ scope_over sun root part → map scope_of found ++ map (scope_over sun root) left ≡ all →
-    map scope_of (found ++ sky ∷ []) ++ map (scope_over sun root) rest ≡ all
-skies_more sun root found sky part left rest all is_left is_sky so_far =
-    let tail = map (scope_over sun root) rest in
-    ap (λ (s : List Scope). s ++ tail) (map-append scope_of found (sky ∷ [])) ∙ append_assoc (map scope_of found) (scope_of sky ∷ []) tail
-    ∙ ap (λ (s : Scope). map scope_of found ++ (s ∷ tail)) is_sky
-    ∙ ap (λ (ps : List (List Polygon)). map scope_of found ++ map (scope_over sun root) ps) (sym is_left) ∙ so_far
-
--- the root of the first scope, where there is one
-abbrev first_of : Cell → List Scope → Cell
-first_of root [] = root
-first_of root (scope ∷ rest) = scope.root
-
-each_root : (sun : SunChoice) (root : Cell) (skies : List Sky) (parts : List (List Polygon)) → map scope_of skies ≡ map (scope_over sun root) parts →
-    Every (λ (sky : Sky). sky.root ≡ root) skies
-each_root sun root [] parts are = tt
-each_root sun root (sky ∷ skies) [] are = absurd cc
-each_root sun root (sky ∷ skies) (part ∷ parts) are = (ap (first_of root) are, each_root sun root skies parts (ap (drop 1) are))
-
-one_root_of : (root : Cell) (skies : List Sky) → Every (λ (sky : Sky). sky.root ≡ root) skies → HaveOneRoot skies
-one_root_of root [] own = All-nil (λ (sky : Sky). sky.root ≡ first_root [])
-one_root_of root (sky ∷ skies) own =
-    All-from_recursion (λ (other : Sky). other.root ≡ sky.root) (sky ∷ skies)
-    (Every-weaker (λ (other : Sky). other.root ≡ root) (λ (other : Sky). other.root ≡ sky.root) (sky ∷ skies) (λ other is. is ∙ sym own.0) own)
-
-pub one_root : (sun : SunChoice) (root : Cell) (skies : List Sky) (parts : List (List Polygon)) → map scope_of skies ≡ map (scope_over sun root) parts → HaveOneRoot skies
-one_root sun root skies parts are = one_root_of root skies (each_root sun root skies parts are)
 
 -- ---- the whole table
 

@@ -39,9 +39,10 @@ use Rattle.set_reader.specs.declared.set.SetOrder.{SetOrder}
 use Rattle.sun_choice.specs.declared.choice.SunChoice.{SunChoice}
 use Rattle.set_table.specs.Laws.{SetsAreRight}
 use Rattle.set_table.specs.RightSet.{IsRightPart, IsRightSet, IsRightSetDay}
-use Rattle.set_table.specs.Table.{SetDay, column_of, joined_of, part_day}
+use Rattle.set_search.specs.Joined.{column_of, joined_of}
+use Rattle.set_table.specs.Table.{SetDay, part_day}
 use Rattle.set_table.specs.Trees.{entries_in, set_of_trees, tree_set_day}
-use Rattle.set_table.proofs.ExtentLemmas.{IsFaultless, each_faultless, root_over_each}
+use Rattle.set_search.proofs.ExtentLemmas.{IsFaultless, each_faultless, root_over_each}
 
 -- ---- one row in each district, and in all of them
 

@@ -8,7 +8,8 @@ use Rattle.cell_judge.specs.declared.sky.Sky.{Sky}
 use Rattle.cell_split.specs.declared.verdict.Entry.{Entry}
 use Rattle.order_table.specs.Made.{day_of}
 use Rattle.order_table.specs.declared.day.Day.{Day}
-use Rattle.set_table.specs.Made.{entries_on, entries_on_days, searched}
+use Rattle.set_search.specs.Searches.{entries_on, entries_on_days}
+use Rattle.set_table.specs.Made.{searched}
 use Rattle.set_table.specs.Table.{set_day, set_day_text, set_day_undecided, set_days_text, set_days_undecided}
 
 -- ---- days that follow each other

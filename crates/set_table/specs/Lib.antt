@@ -3,5 +3,4 @@ pub mod Trees
 pub mod RightSet
 pub mod Laws
 pub mod Made
-pub mod Searches
 pub mod Ready

@@ -4,7 +4,8 @@ use Rattle.order_table.specs.Days.{days_of}
 use Rattle.order_table.specs.Made.{day_of}
 use Rattle.order_table.specs.Trees.{root_over}
 use Rattle.set_reader.specs.Asked.{SetAsked}
-use Rattle.set_table.specs.Made.{scope_of, scope_over, searched}
+use Rattle.set_search.specs.Scopes.{scope_of, scope_over}
+use Rattle.set_table.specs.Made.{searched}
 use Rattle.set_table.specs.Table.{SetDay, head_of, set_days_text}
 use Rattle.set_table.specs.declared.ready.Ready.{Ready}
 

@@ -1,14 +1,12 @@
 -- The table of a set of districts as a value, whoever found its entries; its text, and how many of its entries are undecided.
-use Rattle.std.specs.Prelude.{ℕ, ◌+◌, List, [], ◌∷◌, ◌++◌, None, codes, decimal, flat_map, length, map, slice_index_or, sum_by}
+use Rattle.std.specs.Prelude.{ℕ, ◌+◌, List, [], ◌∷◌, ◌++◌, None, codes, decimal, flat_map, length, map, sum_by}
 use Rattle.cell_split.specs.declared.verdict.Entry.{Entry}
-use Rattle.cell_split.specs.declared.verdict.Entry.TheVariants.{Whole}
-use Rattle.district_set.specs.Joins.{join_entries}
 use Rattle.order_rule.specs.Asked.{Asked}
 use Rattle.order_table.specs.Days.{DayRows}
 use Rattle.order_table.specs.Table.{DayTable, day_found, day_text, days_undecided}
-use Rattle.order_table.specs.Trees.{columns}
 use Rattle.ring_survey.specs.Extent.{positions_of}
 use Rattle.set_reader.specs.Asked.{SetAsked}
+use Rattle.set_search.specs.Joined.{joined_of}
 use Rattle.year_table.specs.Dates.{date_text}
 use Rattle.year_table.specs.Lines.{height_text, order_text, span_text, sun_text, words_text}
 
@@ -16,14 +14,6 @@ use Rattle.year_table.specs.Lines.{height_text, order_text, span_text, sun_text,
 pub record SetDay : Type 0 where
   pub parts : List DayTable
   pub whole : DayTable
-
--- the entry of this column in each district
-abbrev pub column_of : ℕ → List (List Entry) → List Entry
-column_of k found = map (λ entries. slice_index_or entries k Whole) found
-
--- for each column the entry of all districts together
-unfoldable pub joined_of : List (List Entry) → List Entry
-joined_of found = map (λ k. join_entries (column_of k found)) columns
 
 -- a day's rows with these entries; a set has no nights
 abbrev pub part_day : DayRows → List Entry → DayTable

@@ -2,12 +2,9 @@
 // Contract: `write_set` writes exactly the text of the set's table, and each entry of it is right.
 #![tactic(auto)]
 
-mod join;
 pub mod laws;
 mod line;
 mod ready;
-mod search;
-mod skies;
 mod table;
 mod text;
 

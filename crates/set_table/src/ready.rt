@@ -4,11 +4,11 @@ ghost use Rattle.set_reader.specs.Asked.{asked_of};
 ghost use Rattle.set_table.specs.Ready.{IsReady};
 
 use crate::line::set_head;
-use crate::skies::{root_of, skies_over};
 use cell_judge::Sky;
 use no_memory::NoMemory;
 use order_table::{Day, days_of};
 use set_reader::SetOrder;
+use set_search::{root_of, skies_over};
 use std::alloc::Global;
 
 /// What is ready before the first line of a table is written: its head, its days, and the sky over each district.

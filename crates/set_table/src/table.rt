@@ -3,22 +3,23 @@ ghost use Rattle.std.specs.Prelude.{◌≡◌, ◌<◌, ◌≤◌, ◌*◌, ◌/
 ghost use Rattle.order_table.specs.Made.{day_of};
 ghost use Rattle.outcome.specs.Writing.{Writes};
 ghost use Rattle.set_reader.specs.Asked.{asked_of};
-ghost use Rattle.set_table.specs.Made.{HaveOneRoot, entries_on_days, searched};
+ghost use Rattle.set_search.specs.Scopes.{HaveOneRoot};
+ghost use Rattle.set_search.specs.Searches.{IsFound, entries_on_days};
+ghost use Rattle.set_table.specs.Made.{searched};
 ghost use Rattle.set_table.specs.Ready.{found_in, front_of};
 ghost use Rattle.set_table.specs.RightSet.{IsRightSet};
-ghost use Rattle.set_table.specs.Searches.{IsFound};
 ghost use Rattle.set_table.specs.Table.{set_day, set_day_text, set_day_undecided, set_days_text, set_days_undecided, set_end_line};
 ghost use Rattle.set_table.specs.Trees.{table_of, undecided};
 
 use crate::line::end_line;
 use crate::ready::{Ready, prepare};
-use crate::search::search_days;
 use crate::text::{set_day_text, set_day_undecided};
 use cell_judge::Sky;
 use cell_split::Entry;
 use order_table::Day;
 use outcome::Stop;
 use set_reader::SetOrder;
+use set_search::search_days;
 use source_sink::{Sink, write_all};
 use std::alloc::Global;
 use std::sync::Wait;

@@ -3,14 +3,14 @@ ghost use Rattle.std.specs.Prelude.{◌≡◌, ◌<◌, ◌≤◌, ◌*◌, ◌+
 ghost use Rattle.order_table.specs.Made.{day_of};
 ghost use Rattle.order_table.specs.Printing.{IsPrintable};
 ghost use Rattle.order_table.specs.Table.{day_undecided};
-ghost use Rattle.set_table.specs.Searches.{IsFound};
+ghost use Rattle.set_search.specs.Searches.{IsFound};
 ghost use Rattle.set_table.specs.Table.{part_day, part_text, parts_text, set_day, set_day_text, set_day_undecided, whole_text};
 
-use crate::join::joined_of;
 use crate::line::district_line;
 use cell_split::Entry;
 use no_memory::NoMemory;
 use order_table::{Day, day_text, open_count};
+use set_search::joined_of;
 use std::alloc::Global;
 
 /// The lines of the district of this number.

@@ -2,8 +2,8 @@ use Rattle.std.proofs.Common.{All, ◌∙◌, ◌+◌, ℕ, ap, arith, drop, map
 use Rattle.std.proofs.lemmas.List.Elements.{All-drop}
 use Rattle.source_sink.proofs.Transfers.{adds_more}
 use Rattle.outcome.proofs.Streams.{stopped}
-use Rattle.set_table.specs.Made.{entries_on_days, searched}
-use Rattle.set_table.specs.Searches.{IsFound}
+use Rattle.set_search.specs.Searches.{IsFound, entries_on_days}
+use Rattle.set_table.specs.Made.{searched}
 use Rattle.set_table.specs.Table.{set_day_text, set_day_undecided, set_days_text, set_days_undecided}
 use Rattle.set_table.proofs.TableLemmas.{days_left, days_rest, days_step, found_after, found_here, searched_with, undecided_step}
 use Rattle.set_table.proofs.table.write_days.Goals as goal

@@ -1,7 +1,7 @@
 use Rattle.std.proofs.Common.{◌≡◌, ◌≤◌, ◌*◌, All, drop, map, take}
 use Rattle.source_sink.specs.Outside.{Adds}
-use Rattle.set_table.specs.Made.{entries_on_days, searched}
-use Rattle.set_table.specs.Searches.{IsFound}
+use Rattle.set_search.specs.Searches.{IsFound, entries_on_days}
+use Rattle.set_table.specs.Made.{searched}
 use Rattle.set_table.specs.Table.{set_days_text, set_days_undecided}
 use Rattle.set_table.proofs.table.write_days.Given as goal
 

@@ -8,7 +8,8 @@ use Rattle.set_reader.specs.Asked.{asked_of}
 use Rattle.set_table.specs.Ready.{found_in, front_of}
 use Rattle.set_table.specs.Table.{set_days_undecided, set_end_line}
 use Rattle.set_table.specs.Trees.{table_of}
-use Rattle.set_table.proofs.MadeLemmas.{count_is, one_each, one_root, table_is}
+use Rattle.set_search.proofs.ScopeLemmas.{one_each, one_root}
+use Rattle.set_table.proofs.MadeLemmas.{count_is, table_is}
 use Rattle.set_table.proofs.RightLemmas.{set_is_right}
 use Rattle.set_table.proofs.table.write_set.Goals as goal
 

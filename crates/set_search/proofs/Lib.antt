@@ -1,0 +1,4 @@
+pub mod SearchLemmas
+pub mod PrintLemmas
+pub mod ExtentLemmas
+pub mod ScopeLemmas

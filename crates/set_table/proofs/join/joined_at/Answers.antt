@@ -1,5 +1,0 @@
-use Rattle.set_table.proofs.PrintLemmas.{join_printable}
-use Rattle.set_table.proofs.join.joined_at.Goals as goal
-
-pub returns-clause-printable : goal.returns-clause-printable
-returns-clause-printable c = rw (c.join_entries.ensures, c.deref.ensures.value) (join_printable _ c.in_ok-entries.ensures.found)
