@@ -2,8 +2,9 @@
 use ical_text::laws::{
     calendars_are_read_again, lines_decide, reading_is_exact, readings_agree, tables_are_read_again,
 };
-use ical_text::{Events, IcalFault, calendar_end, calendar_head, event_text, read_ical};
+use ical_text::{Event, Events, IcalFault, calendar_end, calendar_head, event_text, read_ical};
 use method_table::{Asr, Method, problems};
+use no_memory::NoMemory;
 use std::alloc::{AllocError, Global};
 use std::process::Abort;
 use std::test::Fail;
@@ -139,17 +140,22 @@ fn fault_text(alloc: Global, fault: IcalFault) -> Result<String, AllocError> {
     }
 }
 
+fn push_word(text: &mut Vec<u8>, word: &[u8], end: u8) -> Result<(), AllocError> {
+    text.extend_from_slice(word)?;
+    Ok(text.push(end)?)
+}
+
+fn push_event(alloc: Global, text: &mut Vec<u8>, event: &Event) -> Result<(), AllocError> {
+    push_word(text, event.start.to_string(alloc)?.as_bytes(), b' ')?;
+    push_word(text, event.uid.bytes(), b' ')?;
+    push_word(text, event.summary.bytes(), b';')
+}
+
 // of each event its minute, its UID and its SUMMARY
 fn events_text(alloc: Global, events: &Events) -> Result<Vec<u8>, AllocError> {
     let mut text = Vec::new(alloc);
     for i in 0..events.count() {
-        let event = events.event(i);
-        text.extend_from_slice(event.start.to_string(alloc)?.as_bytes())?;
-        text.extend_from_slice(b" ")?;
-        text.extend_from_slice(event.uid.bytes())?;
-        text.extend_from_slice(b" ")?;
-        text.extend_from_slice(event.summary.bytes())?;
-        text.extend_from_slice(b";")?;
+        push_event(alloc, &mut text, events.event(i))?;
     }
     Ok(text)
 }
@@ -161,51 +167,59 @@ fn answer(alloc: Global, text: &str) -> Result<Vec<u8>, AllocError> {
     }
 }
 
+// a text with something in front and behind, and the ends of its lines
+fn calendar_of(alloc: Global, front: &str, lines: &str, back: &str) -> Result<String, AllocError> {
+    let text = format!(in alloc; "{front}{lines}{back}")?;
+    text.replace(alloc, "|", "\r\n")
+}
+
+fn expect_answer(
+    rt: &(impl Abort + AllocGlobal),
+    text: &str,
+    want: &str,
+    lines: &str,
+) -> Result<(), Fail> {
+    let got = answer(rt.alloc(), text)?;
+    assert_eq!(rt; (lines, got.as_slice()), (lines, want.as_bytes()));
+    Ok(())
+}
+
 // the answers to texts with something in front and behind
 fn with_lines(
-    rt: &impl Abort,
-    alloc: Global,
+    rt: &(impl Abort + AllocGlobal),
     front: &str,
     rows: &[(&str, &str)],
     back: &str,
 ) -> Result<(), Fail> {
     for (lines, want) in rows {
-        let text = format!(in alloc; "{front}{lines}{back}")?;
-        let text = text.replace(alloc, "|", "\r\n")?;
-        let got = answer(alloc, text.as_str())?;
-        assert_eq!(rt; got.as_slice(), want.as_bytes(), "at {lines}");
+        let text = calendar_of(rt.alloc(), front, lines, back)?;
+        expect_answer(rt, text.as_str(), want, lines)?;
     }
     Ok(())
 }
 
 #[test]
 fn texts_are_calendars_or_have_a_first_fault(rt: HostRuntime) -> Result<(), Fail> {
-    with_lines(&rt, rt.alloc(), "", &TEXTS, "")
+    with_lines(&rt, "", &TEXTS, "")
 }
 
 #[test]
 fn lines_are_properties_in_their_place(rt: HostRuntime) -> Result<(), Fail> {
-    with_lines(
-        &rt,
-        rt.alloc(),
-        "BEGIN:VCALENDAR|",
-        &LINES,
-        "END:VCALENDAR|",
-    )
+    with_lines(&rt, "BEGIN:VCALENDAR|", &LINES, "END:VCALENDAR|")
 }
 
 #[test]
 fn events_have_their_own_properties(rt: HostRuntime) -> Result<(), Fail> {
     let front = "BEGIN:VCALENDAR|BEGIN:VEVENT|";
     let back = "END:VEVENT|END:VCALENDAR|";
-    with_lines(&rt, rt.alloc(), front, &PROPERTIES, back)
+    with_lines(&rt, front, &PROPERTIES, back)
 }
 
 #[test]
 fn moments_are_real_and_near(rt: HostRuntime) -> Result<(), Fail> {
     let front = "BEGIN:VCALENDAR|BEGIN:VEVENT|UID:u|DTSTART:";
     let back = "|SUMMARY:s|END:VEVENT|END:VCALENDAR|";
-    with_lines(&rt, rt.alloc(), front, &MOMENTS, back)
+    with_lines(&rt, front, &MOMENTS, back)
 }
 
 // The event of Fajr at rank 285 of 2000-01-01 at a place of no longitude, and that of Isha's last rank of the last day.
@@ -215,39 +229,54 @@ const FAJR: &str =
 const ISHA: &str =
     "BEGIN:VEVENT\r\nUID:2100-12-31-isha--180000000-65000000@timetable.invalid\r\nDTSTAMP:21001231T000000Z\r\nDTSTART:21010101T120000Z\r\nSUMMARY:isha\r\nDESCRIPTION:Safe at every point of the district. Method mwl\\, asr standard\\\r\n , zone EST12EDT\\,M3.2.0\\,M11.1.0\r\nEND:VEVENT\r\n";
 
-#[test]
-fn events_are_written_and_read_again(rt: HostRuntime) -> Result<(), Fail> {
-    let alloc = rt.alloc();
+fn fajr_event(alloc: Global) -> Result<Vec<u8>, NoMemory> {
     let (mwl, standard) = (Method::Mwl, Asr::Standard);
-    let first = problems(mwl, standard, 10_957, 0, 720, 0, 90);
-    let fajr = event_text(
-        alloc, 10_957, &first[0], 285, 10_957, 100_000, 0, mwl, standard, "0",
-    )?;
-    assert_eq!(rt; fajr.as_slice(), FAJR.as_bytes());
-    let last = problems(mwl, standard, 47_846, -720, 720, 0, 90);
-    let zone = "EST12EDT,M3.2.0,M11.1.0";
-    let isha = event_text(
+    let [fajr, _, _, _, _, _, _] = problems(mwl, standard, 10_957, 0, 720, 0, 90);
+    event_text(
+        alloc, 10_957, &fajr, 285, 10_957, 100_000, 0, mwl, standard, "0",
+    )
+}
+
+fn isha_event(alloc: Global) -> Result<Vec<u8>, NoMemory> {
+    let (mwl, standard) = (Method::Mwl, Asr::Standard);
+    let [_, _, _, _, _, _, isha] = problems(mwl, standard, 47_846, -720, 720, 0, 90);
+    event_text(
         alloc,
         47_846,
-        &last[6],
+        &isha,
         720,
         47_846,
         -180_000_000,
         65_000_000,
         mwl,
         standard,
-        zone,
-    )?;
-    assert_eq!(rt; isha.as_slice(), ISHA.as_bytes());
-    let text = format!(in alloc; "{}{FAJR}{ISHA}{}", calendar_head(), calendar_end())?;
-    let got = answer(alloc, text.as_str())?;
-    let want =
-        "-435 2000-01-01-fajr-100000-0@timetable.invalid fajr;53121600 2100-12-31-isha--180000000-65000000@timetable.invalid isha;";
+        "EST12EDT,M3.2.0,M11.1.0",
+    )
+}
+
+fn expect_event(rt: &impl Abort, got: Result<Vec<u8>, NoMemory>, want: &str) -> Result<(), Fail> {
+    let got = got?;
     assert_eq!(rt; got.as_slice(), want.as_bytes());
+    Ok(())
+}
+
+const EVENTS: &str =
+    "-435 2000-01-01-fajr-100000-0@timetable.invalid fajr;53121600 2100-12-31-isha--180000000-65000000@timetable.invalid isha;";
+
+fn the_laws_stand() {
     reading_is_exact();
     readings_agree();
     lines_decide();
     calendars_are_read_again();
     tables_are_read_again();
-    Ok(())
+}
+
+#[test]
+fn events_are_written_and_read_again(rt: HostRuntime) -> Result<(), Fail> {
+    let alloc = rt.alloc();
+    expect_event(&rt, fajr_event(alloc), FAJR)?;
+    expect_event(&rt, isha_event(alloc), ISHA)?;
+    the_laws_stand();
+    let text = format!(in alloc; "{}{FAJR}{ISHA}{}", calendar_head(), calendar_end())?;
+    expect_answer(&rt, text.as_str(), EVENTS, "two events")
 }

@@ -1,8 +1,10 @@
 // Worked rows of zones and lines.
-ghost use Rattle.std.specs.Prelude.{◌≡◌};
+ghost use Rattle.std.specs.Prelude.{pos, ◌≡◌, ◌≤ℤ◌};
+ghost use Rattle.year_table.specs.Entries.{IsInFrame};
 
 use cell_split::{Cell, Entry};
-use method_table::{Asr, Method, problems};
+use method_table::{Asr, Method, Problem, problems};
+use no_memory::NoMemory;
 use std::alloc::Global;
 use std::process::Abort;
 use std::test::Fail;
@@ -105,92 +107,104 @@ fn offset_of(rt: &impl Abort, alloc: Global, text: &str, day: i32) -> Result<Opt
     Ok(day_offset(&Zone::Rule { rule }, day)?)
 }
 
+// a rule, a day and what was found of them are these
+fn expect_offset(
+    rt: &impl Abort,
+    found: (&str, i32, Option<i32>),
+    wanted: (&str, i32, Option<i32>),
+) {
+    assert_eq!(rt; found, wanted);
+}
+
 #[test]
 fn rules_give_the_offset_at_noon(rt: HostRuntime) -> Result<(), Fail> {
-    for (text, day, offset) in OFFSETS {
-        assert_eq!(rt;
-            offset_of(&rt, rt.alloc(), text, day)?,
-            offset,
-            "{text} on {day}"
-        );
+    for (text, day, offset) in &OFFSETS {
+        let found = offset_of(&rt, rt.alloc(), text, *day)?;
+        expect_offset(&rt, (text, *day, found), (text, *day, *offset));
     }
     Ok(())
 }
 
+const NO_RULES: [&str; 13] = [
+    "",
+    "CET",
+    "CET-1CEST",
+    "CET-25",
+    "AB0",
+    "ABCDEFGHIJKLMNOP0",
+    "CET-1CEST,M13.5.0,M10.5.0",
+    "CET-1CEST,M3.5.0,M10.5.0/168",
+    "CET-1CEST,J0,J365",
+    "CET-1 ",
+    "<A\"B>0",
+    "Europe/Berlin",
+    "CET-1CEST,M3.5.0/002:00:00,M10.5.0/0000000000000000000000000000000000000",
+];
+
 #[test]
 fn other_texts_are_no_rules(rt: HostRuntime) {
-    let texts = [
-        "",
-        "CET",
-        "CET-1CEST",
-        "CET-25",
-        "AB0",
-        "ABCDEFGHIJKLMNOP0",
-        "CET-1CEST,M13.5.0,M10.5.0",
-        "CET-1CEST,M3.5.0,M10.5.0/168",
-        "CET-1CEST,J0,J365",
-        "CET-1 ",
-        "<A\"B>0",
-        "Europe/Berlin",
-        "CET-1CEST,M3.5.0/002:00:00,M10.5.0/0000000000000000000000000000000000000",
-    ];
-    for text in texts {
+    for text in &NO_RULES {
         assert!(rt; read_rule(rt.alloc(), text).is_err(), "{text}");
     }
 }
 
+// offsets in minutes, where they are in the range
+const FIXED: [(i32, Option<i32>); 4] = [
+    (840, Some(840)),
+    (841, None),
+    (-720, Some(-720)),
+    (-721, None),
+];
+
 #[test]
 fn fixed_zones_have_a_range(rt: HostRuntime) {
-    for (minutes, offset) in [
-        (840, Some(840)),
-        (841, None),
-        (-720, Some(-720)),
-        (-721, None),
-    ] {
-        assert_eq!(rt; day_offset(&Zone::Fixed { minutes }, 0), Ok(offset));
+    for (minutes, offset) in &FIXED {
+        let zone = Zone::Fixed { minutes: *minutes };
+        assert_eq!(rt; day_offset(&zone, 0), Ok(*offset));
     }
 }
 
-#[test]
-fn dates_are_gregorian(rt: HostRuntime) -> Result<(), Fail> {
-    assert_eq!(rt;
-        date_text(rt.alloc(), -25_567)?.as_slice(),
-        "1900-01-01".as_bytes()
-    );
-    assert_eq!(rt;
-        date_text(rt.alloc(), 11_016)?.as_slice(),
-        "2000-02-29".as_bytes()
-    );
-    assert_eq!(rt;
-        date_text(rt.alloc(), 47_541)?.as_slice(),
-        "2100-03-01".as_bytes()
-    );
-    assert_eq!(rt;
-        date_text(rt.alloc(), 47_846)?.as_slice(),
-        "2100-12-31".as_bytes()
-    );
+/// A call wrote this text.
+fn expect_text(rt: &impl Abort, got: Result<Vec<u8>, NoMemory>, want: &str) -> Result<(), Fail> {
+    let got = got?;
+    assert_eq!(rt; got.as_slice(), want.as_bytes());
     Ok(())
 }
 
 #[test]
-fn a_table_of_one_day(rt: HostRuntime) -> Result<(), Fail> {
+fn dates_are_gregorian(rt: HostRuntime) -> Result<(), Fail> {
     let alloc = rt.alloc();
-    let zone = Zone::Fixed { minutes: 0 };
-    let head = table_head(
+    expect_text(&rt, date_text(alloc, -25_567), "1900-01-01")?;
+    expect_text(&rt, date_text(alloc, 11_016), "2000-02-29")?;
+    expect_text(&rt, date_text(alloc, 47_541), "2100-03-01")?;
+    expect_text(&rt, date_text(alloc, 47_846), "2100-12-31")
+}
+
+const HEAD_OF_ONE_DAY: &str = "prayer timetable 1
+from 2000-01-01 days 1 method mwl asr standard zone 0 positions 4
+date         fajr  f.end  dhuhr    asr   magh  m.end   isha
+";
+
+const HEAD_WITH_EVERYTHING: &str = "prayer timetable 1
+from 1970-01-01 days 366 method makkah asr hanafi zone rule positions 4096 height 9000 sun meeus
+date         fajr  f.end  dhuhr    asr   magh  m.end   isha
+";
+
+fn head_of_one_day(alloc: Global) -> Result<Vec<u8>, NoMemory> {
+    table_head(
         alloc,
         10_957,
         1,
         Method::Mwl,
         Asr::Standard,
-        &zone,
+        &Zone::Fixed { minutes: 0 },
         4,
         0,
         SunChoice::Usno,
-    )?;
-    assert_eq!(rt;
-        head.as_slice(),
-        "prayer timetable 1\nfrom 2000-01-01 days 1 method mwl asr standard zone 0 positions 4\ndate         fajr  f.end  dhuhr    asr   magh  m.end   isha\n".as_bytes()
-    );
+    )
+}
+
+fn line_of_one_day(alloc: Global) -> Result<Vec<u8>, NoMemory> {
     let rows = problems(Method::Mwl, Asr::Standard, 10_957, 0, 720, 0, 90);
     let entries = [
         Entry::Minute { rank: 285 },
@@ -201,66 +215,69 @@ fn a_table_of_one_day(rt: HostRuntime) -> Result<(), Fail> {
         Entry::Minute { rank: 283 },
         Entry::Minute { rank: 438 },
     ];
-    let line = day_line(alloc, 10_957, &rows, &entries)?;
-    assert_eq!(rt;
-        line.as_slice(),
-        "2000-01-01  04:45  05:59  12:03  15:29  18:07  19:17  19:18\n".as_bytes()
-    );
-    let end = end_line(alloc, 1, 0)?;
-    assert_eq!(rt; end.as_slice(), "end days 1 open 0\n".as_bytes());
-    Ok(())
+    day_line(alloc, 10_957, &rows, &entries)
 }
 
 #[test]
-fn a_head_with_everything(rt: HostRuntime) -> Result<(), Fail> {
+fn a_table_of_one_day(rt: HostRuntime) -> Result<(), Fail> {
     let alloc = rt.alloc();
-    let rule = read_rule(alloc, "UTC0")?;
-    let zone = Zone::Rule { rule };
-    let head = table_head(
+    let line = "2000-01-01  04:45  05:59  12:03  15:29  18:07  19:17  19:18\n";
+    expect_text(&rt, head_of_one_day(alloc), HEAD_OF_ONE_DAY)?;
+    expect_text(&rt, line_of_one_day(alloc), line)?;
+    expect_text(&rt, end_line(alloc, 1, 0), "end days 1 open 0\n")
+}
+
+fn head_with_everything(alloc: Global, zone: &Zone) -> Result<Vec<u8>, NoMemory> {
+    table_head(
         alloc,
         0,
         366,
         Method::Makkah,
         Asr::Hanafi,
-        &zone,
+        zone,
         4096,
         9000,
         SunChoice::Meeus,
-    )?;
-    let expected =
-        "prayer timetable 1\nfrom 1970-01-01 days 366 method makkah asr hanafi zone rule positions 4096 height 9000 sun meeus\ndate         fajr  f.end  dhuhr    asr   magh  m.end   isha\n";
-    assert_eq!(rt; head.as_slice(), expected.as_bytes());
+    )
+}
+
+#[test]
+fn a_head_with_everything(rt: HostRuntime) -> Result<(), Fail> {
+    let rule = read_rule(rt.alloc(), "UTC0")?;
+    let head = head_with_everything(rt.alloc(), &Zone::Rule { rule });
     assert_eq!(rt; sun_word(SunChoice::Usno), "usno");
-    Ok(())
+    expect_text(&rt, head, HEAD_WITH_EVERYTHING)
+}
+
+/// Fajr and Isha of the first day of 1970, by the method of Makkah and this reference noon.
+fn first_and_last(noon: i32) -> (Problem, Problem)
+    requires not_negative { pos 0 ≤ℤ noon }
+    requires below_a_day { noon ≤ℤ pos 1439 }
+{
+    let [fajr, _, _, _, _, _, isha] = problems(Method::Makkah, Asr::Standard, 0, 0, noon, 0, 120);
+    (fajr, isha)
+}
+
+fn expect_entry(
+    rt: &(impl Abort + AllocGlobal),
+    problem: &Problem,
+    entry: &Entry,
+    want: &str,
+) -> Result<(), Fail>
+    requires { IsInFrame entry.now }
+{
+    expect_text(rt, entry_text(rt.alloc(), problem, entry), want)
 }
 
 #[test]
 fn entries_have_marks(rt: HostRuntime) -> Result<(), Fail> {
-    let alloc = rt.alloc();
-    let [fajr, _, _, _, _, _, isha] = problems(Method::Makkah, Asr::Standard, 0, 0, 22, 0, 120);
-    assert_eq!(rt;
-        entry_text(alloc, &fajr, &Entry::Minute { rank: 1 })?.as_slice(),
-        "-12:23".as_bytes()
-    );
-    assert_eq!(rt;
-        entry_text(alloc, &fajr, &Entry::Whole)?.as_slice(),
-        " **:**".as_bytes()
-    );
-    assert_eq!(rt;
-        entry_text(alloc, &fajr, &Entry::Never)?.as_slice(),
-        " --:--".as_bytes()
-    );
-    assert_eq!(rt;
-        entry_text(alloc, &isha, &Entry::Minute { rank: 720 })?.as_slice(),
-        " 14:22".as_bytes()
-    );
-    let late = problems(Method::Makkah, Asr::Standard, 0, 0, 1439, 0, 120);
-    let [_, _, _, _, _, _, isha] = late;
-    assert_eq!(rt;
-        entry_text(alloc, &isha, &Entry::Minute { rank: 0 })?.as_slice(),
-        "+01:59".as_bytes()
-    );
-    Ok(())
+    let (fajr, isha) = first_and_last(22);
+    expect_entry(&rt, &fajr, &Entry::Minute { rank: 1 }, "-12:23")?;
+    expect_entry(&rt, &fajr, &Entry::Whole, " **:**")?;
+    expect_entry(&rt, &fajr, &Entry::Never, " --:--")?;
+    expect_entry(&rt, &isha, &Entry::Minute { rank: 720 }, " 14:22")?;
+    let (_, late) = first_and_last(1439);
+    expect_entry(&rt, &late, &Entry::Minute { rank: 0 }, "+01:59")
 }
 
 // The smallest cell at this corner and rank.
@@ -285,38 +302,23 @@ fn an_open_entry_has_a_line(rt: HostRuntime) -> Result<(), Fail> {
         from: 100,
         cell: smallest(12_800_000, 0, 100),
     };
-    assert_eq!(rt;
-        entry_text(alloc, &fajr, &entry)?.as_slice(),
-        " ??:??".as_bytes()
-    );
-    let line = open_line(alloc, &fajr, &entry)?;
-    assert_eq!(rt;
-        line.as_slice(),
-        "open fajr safe  01:41 from  01:40 cell 12800000 0 rank 100\n".as_bytes()
-    );
+    let line = "open fajr safe  01:41 from  01:40 cell 12800000 0 rank 100\n";
+    expect_entry(&rt, &fajr, &entry, " ??:??")?;
+    expect_text(&rt, open_line(alloc, &fajr, &entry), line)?;
     let last = Entry::Open {
         safe: 721,
         from: 0,
         cell: smallest(-16, -32, 720),
     };
-    let line = open_line(alloc, &fajr, &last)?;
-    assert_eq!(rt;
-        line.as_slice(),
-        "open fajr safe  --:-- from  00:00 cell -16 -32 rank 720\n".as_bytes()
-    );
-    Ok(())
+    let line = "open fajr safe  --:-- from  00:00 cell -16 -32 rank 720\n";
+    expect_text(&rt, open_line(alloc, &fajr, &last), line)
 }
 
 #[test]
 fn a_night_has_a_line(rt: HostRuntime) -> Result<(), Fail> {
     let alloc = rt.alloc();
-    assert_eq!(rt;
-        night_line(alloc, Some(80), Some(1520))?.as_slice(),
-        "night fajr  01:20 isha +01:20\n".as_bytes()
-    );
-    assert_eq!(rt;
-        night_line(alloc, Some(-720), None)?.as_slice(),
-        "night fajr -12:00 isha  --:--\n".as_bytes()
-    );
-    Ok(())
+    let both = "night fajr  01:20 isha +01:20\n";
+    expect_text(&rt, night_line(alloc, Some(80), Some(1520)), both)?;
+    let fajr = "night fajr -12:00 isha  --:--\n";
+    expect_text(&rt, night_line(alloc, Some(-720), None), fajr)
 }

@@ -1,4 +1,4 @@
-// Tests of the crates of words and texts, a module a crate.
+// Tests of the crates of dates and calendars, a module a crate.
 // Contract: none; the crate has tests alone.
 #![tactic(auto)]
 
@@ -6,7 +6,3 @@
 mod calendars;
 #[cfg(test)]
 mod dates;
-#[cfg(test)]
-mod json_texts;
-#[cfg(test)]
-mod streams;

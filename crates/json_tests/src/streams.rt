@@ -1,10 +1,13 @@
 // Sources and sinks: calls that fail by a plan, and std's readers and writers.
+use no_memory::NoMemory;
 use source_sink::{
     Got, MemSink, MemSource, Put, ReadFault, Sink, Source, StdSink, StdSource, SureSink,
     SureSource, WriteFault, read_all, write_all,
 };
+use std::alloc::{AllocError, Global};
 use std::io;
 use std::io::{ErrorKind, Read, Write};
+use std::process::Abort;
 use std::test::Fail;
 
 /// A device that fails at each call.
@@ -79,35 +82,70 @@ fn a_writer_of_one_byte_a_call_gets_all(rt: HostRuntime) {
     assert_eq!(rt; slow.written.as_slice(), b"abc".as_slice());
 }
 
-#[test]
-fn calls_of_the_plan_fail(rt: HostRuntime) -> Result<(), Fail> {
-    let bytes = b"abcd".to_vec(rt.alloc())?;
-    let failing = vec![in rt.alloc(); 2]?;
-    let mut source = MemSource::new(bytes, failing, 3);
-    let first = read_all(rt.alloc(), &mut source, 4);
-    assert_eq!(rt; first.err(), Some(ReadFault::Failed));
-    assert_eq!(rt; source.faults(), 1);
-    let rest = read_all(rt.alloc(), &mut source, 4)?;
-    assert_eq!(rt; rest.as_slice(), b"d".as_slice());
+/// A source of four bytes, three a call, whose second call fails.
+fn failing_source(alloc: Global) -> Result<MemSource, AllocError> {
+    let failing = vec![in alloc; 2]?;
+    Ok(MemSource::new(b"abcd".to_vec(alloc)?, failing, 3))
+}
 
-    let failing = vec![in rt.alloc(); 1]?;
-    let mut sink = MemSink::new(rt.alloc(), 5, failing, 2)?;
-    assert_eq!(rt; write_all(&mut sink, b"abc"), Err(WriteFault));
-    assert_eq!(rt; write_all(&mut sink, b"abc"), Ok(()));
-    assert_eq!(rt; write_all(&mut sink, b"abc"), Err(WriteFault));
+/// A sink with room for five bytes, two a call, whose first call fails.
+fn failing_sink(alloc: Global) -> Result<MemSink, NoMemory> {
+    let failing = vec![in alloc; 1]?;
+    MemSink::new(alloc, 5, failing, 2)
+}
+
+fn expect_fault(rt: &impl Abort, read: Result<Vec<u8>, ReadFault>, fault: ReadFault) {
+    assert_eq!(rt; read.err(), Some(fault));
+}
+
+fn expect_bytes(
+    rt: &impl Abort,
+    read: Result<Vec<u8>, ReadFault>,
+    wanted: &[u8],
+) -> Result<(), Fail> {
+    let read = read?;
+    assert_eq!(rt; read.as_slice(), wanted);
+    Ok(())
+}
+
+fn expect_written<K: Sink>(
+    rt: &impl Abort,
+    sink: &mut K,
+    bytes: &[u8],
+    wanted: Result<(), WriteFault>,
+) {
+    assert_eq!(rt; write_all(sink, bytes), wanted);
+}
+
+fn expect_failing_writes(rt: &(impl Abort + AllocGlobal)) -> Result<(), Fail> {
+    let mut sink = failing_sink(rt.alloc())?;
+    expect_written(rt, &mut sink, b"abc", Err(WriteFault));
+    expect_written(rt, &mut sink, b"abc", Ok(()));
+    expect_written(rt, &mut sink, b"abc", Err(WriteFault));
     assert_eq!(rt; sink.faults(), 2);
     assert_eq!(rt; sink.bytes(), b"abcab".as_slice());
     Ok(())
 }
 
 #[test]
+fn calls_of_the_plan_fail(rt: HostRuntime) -> Result<(), Fail> {
+    let mut source = failing_source(rt.alloc())?;
+    let first = read_all(rt.alloc(), &mut source, 4);
+    expect_fault(&rt, first, ReadFault::Failed);
+    assert_eq!(rt; source.faults(), 1);
+    let rest = read_all(rt.alloc(), &mut source, 4);
+    expect_bytes(&rt, rest, b"d")?;
+    expect_failing_writes(&rt)
+}
+
+#[test]
 fn sure_ones_never_fail(rt: HostRuntime) -> Result<(), Fail> {
     let mut source = SureSource::new(b"abc".to_vec(rt.alloc())?);
     let too_long = read_all(rt.alloc(), &mut source, 2);
-    assert_eq!(rt; too_long.err(), Some(ReadFault::TooLong));
+    expect_fault(&rt, too_long, ReadFault::TooLong);
     let mut sink = SureSink::new(rt.alloc(), 4)?;
-    assert_eq!(rt; write_all(&mut sink, b"abc"), Ok(()));
-    assert_eq!(rt; write_all(&mut sink, b"def"), Ok(()));
+    expect_written(&rt, &mut sink, b"abc", Ok(()));
+    expect_written(&rt, &mut sink, b"def", Ok(()));
     assert_eq!(rt; sink.bytes(), b"abcd".as_slice());
     Ok(())
 }
