@@ -25,58 +25,70 @@ fn cell(x: i64, y: i64, size: u8, first: u32, last: u32) -> Cell
     }
 }
 
+// a cell is this
+fn expect_cell(rt: &impl Abort, found: &Cell, wanted: Cell) {
+    assert_eq!(rt; *found, wanted);
+}
+
 #[test]
 fn the_root_is_divided_by_its_ranks(rt: HostRuntime) {
     let root = root_at(100_000, 0);
-    assert_eq!(rt; root, cell(12_800_000, 0, 29, 0, 720));
+    expect_cell(&rt, &root, cell(12_800_000, 0, 29, 0, 720));
     let below = children(&root);
     assert_eq!(rt; below.count, 2);
-    assert_eq!(rt; below.cells[0], cell(12_800_000, 0, 29, 360, 720));
-    assert_eq!(rt; below.cells[1], cell(12_800_000, 0, 29, 0, 359));
+    expect_cell(&rt, &below.cells[0], cell(12_800_000, 0, 29, 360, 720));
+    expect_cell(&rt, &below.cells[1], cell(12_800_000, 0, 29, 0, 359));
 }
 
-// the children of a cell of the root at 0, 0
-fn children_below(rt: &impl Abort, c: &Cell) -> Children {
+// the children of a cell of the root at 0, 0, of which there are so many
+fn children_below(rt: &impl Abort, c: &Cell, count: u8) -> Children {
     let root = root_at(0, 0);
     let inside = within(c, &root);
     assert!(rt; inside);
-    children(c)
+    let below = children(c);
+    assert_eq!(rt; below.count, count);
+    below
 }
 
 #[test]
 fn few_ranks_leave_the_place_to_be_quartered(rt: HostRuntime) {
     let side = 268_435_456;
-    let below = children_below(&rt, &cell(0, 0, 29, 0, 10));
-    assert_eq!(rt; below.count, 4);
-    assert_eq!(rt; below.cells[0], cell(0, 0, 28, 0, 10));
-    assert_eq!(rt; below.cells[1], cell(side, 0, 28, 0, 10));
-    assert_eq!(rt; below.cells[2], cell(0, side, 28, 0, 10));
-    assert_eq!(rt; below.cells[3], cell(side, side, 28, 0, 10));
-    let halves = children_below(&rt, &below.cells[0]);
-    assert_eq!(rt; halves.count, 2);
-    assert_eq!(rt; halves.cells[0], cell(0, 0, 28, 5, 10));
-    assert_eq!(rt; halves.cells[3], cell(0, 0, 28, 0, 4));
-    assert_eq!(rt; children_below(&rt, &cell(0, 0, 4, 7, 7)).count, 0);
+    let below = children_below(&rt, &cell(0, 0, 29, 0, 10), 4);
+    expect_cell(&rt, &below.cells[0], cell(0, 0, 28, 0, 10));
+    expect_cell(&rt, &below.cells[1], cell(side, 0, 28, 0, 10));
+    expect_cell(&rt, &below.cells[2], cell(0, side, 28, 0, 10));
+    expect_cell(&rt, &below.cells[3], cell(side, side, 28, 0, 10));
+    let halves = children_below(&rt, &below.cells[0], 2);
+    expect_cell(&rt, &halves.cells[0], cell(0, 0, 28, 5, 10));
+    expect_cell(&rt, &halves.cells[3], cell(0, 0, 28, 0, 4));
+    children_below(&rt, &cell(0, 0, 4, 7, 7), 0);
+}
+
+// the numbers of a cell, and whether it is in the root at 0, 0
+const ANY: [(i64, i64, u8, u32, u32, bool); 11] = [
+    (0, 0, 29, 0, 720, true),
+    (536_870_896, 0, 4, 720, 720, true),
+    (536_870_897, 0, 4, 720, 720, false),
+    (0, -1, 4, 0, 0, false),
+    (0, 0, 3, 0, 0, false),
+    (0, 0, 30, 0, 0, false),
+    (0, 0, 255, 0, 0, false),
+    (0, 0, 4, 1, 0, false),
+    (0, 0, 4, 0, 721, false),
+    (9_223_372_036_854_775_807, 0, 29, 0, 0, false),
+    (-9_223_372_036_854_775_808, 0, 29, 0, 0, false),
+];
+
+// whether a cell is in the root at 0, 0
+fn expect_within(rt: &impl Abort, c: &Cell, inside: bool) {
+    let root = root_at(0, 0);
+    assert_eq!(rt; within(c, &root), inside, "at {c:?}");
 }
 
 #[test]
 fn any_numbers_are_tried_against_a_root(rt: HostRuntime) {
-    let root = root_at(0, 0);
-    let rows = [
-        (cell(0, 0, 29, 0, 720), true),
-        (cell(536_870_896, 0, 4, 720, 720), true),
-        (cell(536_870_897, 0, 4, 720, 720), false),
-        (cell(0, -1, 4, 0, 0), false),
-        (cell(0, 0, 3, 0, 0), false),
-        (cell(0, 0, 30, 0, 0), false),
-        (cell(0, 0, 255, 0, 0), false),
-        (cell(0, 0, 4, 1, 0), false),
-        (cell(0, 0, 4, 0, 721), false),
-        (cell(9_223_372_036_854_775_807, 0, 29, 0, 0), false),
-        (cell(-9_223_372_036_854_775_808, 0, 29, 0, 0), false),
-    ];
-    for (c, inside) in rows {
-        assert_eq!(rt; within(&c, &root), inside, "at {c:?}");
+    for (x, y, size, first, last, inside) in &ANY {
+        expect_within(&rt, &cell(*x, *y, *size, *first, *last), *inside);
     }
 }
 

@@ -2,8 +2,8 @@
 mod cases;
 
 use cases::{BOXES, DISTRICTS, PLACES};
-use region::{District, Point, Rect, RegionFault};
-use std::alloc::Global;
+use region::{District, Point, Rect, RegionFault, Strip, Strips};
+use std::alloc::{AllocError, Global};
 use std::process::Abort;
 use std::test::Fail;
 
@@ -54,62 +54,91 @@ fn rect(rt: &impl Abort, x: i64, width: i64, y: i64, height: i64) -> Rect {
     Rect::new(x, x + width, y, y + height)
 }
 
+/// The district of this number holds the place, or doesn't.
+fn expect_place(
+    rt: &impl Abort,
+    districts: &[District],
+    n: usize,
+    (a, b, d): (i128, i128, i128),
+    want: bool,
+) -> Result<(), Fail> {
+    let district = districts.get(n).ok_or("no such district")?;
+    let found = district.contains(point(rt, a, b, d));
+    assert_eq!(rt; (n, (a, b, d), found), (n, (a, b, d), want));
+    Ok(())
+}
+
+/// The place that a district names for a box.
+fn named(district: &District, rect: Rect) -> Option<(i128, i128, i128)> {
+    district.meets(rect).map(|p| (p.a, p.b, p.d))
+}
+
+/// The place that the district of this number names for the box with this corner in the south-west.
+fn expect_named(
+    rt: &impl Abort,
+    districts: &[District],
+    n: usize,
+    (x, y, width, height): (i64, i64, i64, i64),
+    want: Option<(i128, i128, i128)>,
+) -> Result<(), Fail> {
+    let district = districts.get(n).ok_or("no such district")?;
+    let found = named(district, rect(rt, x, width, y, height));
+    let cell = (x, y, width, height);
+    assert_eq!(rt; (n, cell, found), (n, cell, want));
+    Ok(())
+}
+
 #[test]
 fn contains_and_meets_as_the_reference(rt: HostRuntime) -> Result<(), Fail> {
     let districts = all_districts(rt.alloc())?;
     for case in PLACES {
         let (n, a, b, d, want) = *case;
-        let district = districts.get(n).ok_or("no such district")?;
-        assert_eq!(rt;
-            district.contains(point(&rt, a, b, d)),
-            want,
-            "{n} at {a} {b} {d}"
-        );
+        expect_place(&rt, &districts, n, (a, b, d), want)?;
     }
     for case in BOXES {
         let (n, x, y, width, height, want) = *case;
-        let district = districts.get(n).ok_or("no such district")?;
-        let found = district
-            .meets(rect(&rt, x, width, y, height))
-            .map(|p| (p.a, p.b, p.d));
-        assert_eq!(rt; found, want, "{n} in {x} {y} {width} {height}");
+        expect_named(&rt, &districts, n, (x, y, width, height), want)?;
     }
     Ok(())
 }
 
+/// Places of the square with a hole: in the hole, on the hole's border twice, corner, inside.
+const PLACES_BY_HAND: [(i128, i128, bool); 4] = [
+    (256_000_000, 256_000_000, false),
+    (128_000_000, 256_000_000, true),
+    (384_000_000, 384_000_000, true),
+    (0, 0, true),
+];
+
+/// A district's number, the corner and the size of a square box, and the place that is named for it.
+const BOXES_BY_HAND: [(usize, i64, i64, i64, Option<(i128, i128, i128)>); 7] = [
+    // The triangle: its slanted side, and beside it.
+    (1, 100, 140, 20, Some((25_600, 39_936, 256))),
+    (1, 200, 200, 10, None),
+    // A vertex on the box's side, and an edge along it.
+    (1, 256, -10, 20, Some((65_536, 0, 256))),
+    (1, 10, -16, 16, Some((2_560, 0, 256))),
+    // Inside the square.
+    (
+        6,
+        MILLION,
+        2 * MILLION,
+        16,
+        Some((128_000_000, 256_000_000, 1)),
+    ),
+    // One place, of edges of length zero.
+    (7, 12_800_000, 0, 16, Some((12_800_000, 0, 1))),
+    (7, 12_800_001, 0, 15, None),
+];
+
 #[test]
 fn contains_and_meets_by_hand(rt: HostRuntime) -> Result<(), Fail> {
     let districts = all_districts(rt.alloc())?;
-    // In degrees of the square with a hole: in the hole, on the hole's border twice, corner, inside.
-    for (x, y, want) in [(2, 2, false), (1, 2, true), (3, 3, true), (0, 0, true)] {
-        let district = districts.get(0).ok_or("no such district")?;
-        let p = point(&rt, x * 128_000_000, y * 128_000_000, 1);
-        assert_eq!(rt; district.contains(p), want, "at {x} {y} degrees");
+    for (x, y, want) in &PLACES_BY_HAND {
+        expect_place(&rt, &districts, 0, (*x, *y, 1), *want)?;
     }
-    for (n, x, y, size, want) in [
-        // The triangle: its slanted side, and beside it.
-        (1, 100, 140, 20, Some((25_600, 39_936, 256))),
-        (1, 200, 200, 10, None),
-        // A vertex on the box's side, and an edge along it.
-        (1, 256, -10, 20, Some((65_536, 0, 256))),
-        (1, 10, -16, 16, Some((2_560, 0, 256))),
-        // Inside the square.
-        (
-            6,
-            MILLION,
-            2 * MILLION,
-            16,
-            Some((128_000_000, 256_000_000, 1)),
-        ),
-        // One place, of edges of length zero.
-        (7, 12_800_000, 0, 16, Some((12_800_000, 0, 1))),
-        (7, 12_800_001, 0, 15, None),
-    ] {
-        let district = districts.get(n).ok_or("no such district")?;
-        let found = district
-            .meets(rect(&rt, x, size, y, size))
-            .map(|p| (p.a, p.b, p.d));
-        assert_eq!(rt; found, want, "{n} in {x} {y} {size}");
+    for (n, x, y, size, want) in &BOXES_BY_HAND {
+        expect_named(&rt, &districts, *n, (*x, *y, *size, *size), *want)?;
     }
     Ok(())
 }
@@ -146,38 +175,71 @@ const FAULTS: [(Polygons, Option<RegionFault>); 10] = [
 
 #[test]
 fn refuses_the_first_fault(rt: HostRuntime) {
-    for (polygons, want) in FAULTS {
-        assert_eq!(rt; district(rt.alloc(), polygons).err(), want);
+    for (polygons, want) in &FAULTS {
+        assert_eq!(rt; district(rt.alloc(), polygons).err(), *want);
     }
+}
+
+/// A ring of so many positions and the first again.
+fn long_ring(alloc: Global, count: i64) -> Result<Vec<(i64, i64)>, AllocError> {
+    let mut ring = Vec::new(alloc);
+    for k in 0..count {
+        ring.push((k, k % 7))?;
+    }
+    ring.push((0, 0))?;
+    Ok(ring)
+}
+
+/// The fault of a ring of so many positions and the first again.
+fn fault_of_long(alloc: Global, count: i64) -> Result<Option<RegionFault>, AllocError> {
+    let rings = vec![in alloc; long_ring(alloc, count)?]?;
+    let polygons = vec![in alloc; rings]?;
+    Ok(District::new(alloc, polygons).err())
 }
 
 #[test]
 fn holds_4096_positions(rt: HostRuntime) -> Result<(), Fail> {
-    for (count, want) in [(4_095, None), (4_096, Some(RegionFault::TooMany))] {
-        let mut ring = Vec::new(rt.alloc());
-        for k in 0..count {
-            ring.push((k, k % 7))?;
-        }
-        ring.push((0, 0))?;
-        let polygons = vec![in rt.alloc(); vec![in rt.alloc(); ring]?]?;
-        assert_eq!(rt; District::new(rt.alloc(), polygons).err(), want, "{count}");
-    }
+    assert_eq!(rt; fault_of_long(rt.alloc(), 4_095)?, None);
+    assert_eq!(rt;
+        fault_of_long(rt.alloc(), 4_096)?,
+        Some(RegionFault::TooMany)
+    );
     Ok(())
+}
+
+/// The third position of a district of one ring of four.
+fn third_of_four(rt: &impl Abort, district: &District) -> (i64, i64) {
+    assert!(rt; district.polygon_count() == 1);
+    assert!(rt; district.ring_count(0) == 1);
+    assert!(rt; district.position_count(0, 0) == 4);
+    district.position(0, 0, 2)
 }
 
 #[test]
 fn reads_back(rt: HostRuntime) -> Result<(), Fail> {
     let district = district(rt.alloc(), &[&[&[(1, 2), (9, 2), (5, -7), (1, 2)]]])?;
-    assert_eq!(rt;
-        (district.west(), district.east(), district.south()),
-        (1, 9, -7)
-    );
+    let bounds = (district.west(), district.east(), district.south());
+    assert_eq!(rt; bounds, (1, 9, -7));
     assert_eq!(rt; (district.positions(), district.polygon_count()), (4, 1));
-    assert!(rt; district.polygon_count() == 1);
-    assert!(rt; district.ring_count(0) == 1);
-    assert!(rt; district.position_count(0, 0) == 4);
-    assert_eq!(rt; district.position(0, 0, 2), (5, -7));
+    assert_eq!(rt; third_of_four(&rt, &district), (5, -7));
     Ok(())
+}
+
+/// How many edges four of a district's strips hold.
+fn edge_counts(strips: &Strips) -> (usize, usize, usize, usize) {
+    (
+        strips.strip(0).edge_count(),
+        strips.strip(1).edge_count(),
+        strips.strip(61).edge_count(),
+        strips.strip(63).edge_count(),
+    )
+}
+
+/// The place that a strip names for a box within it.
+fn named_by(rt: &impl Abort, strip: &Strip, r: Rect) -> Option<(i128, i128, i128)> {
+    assert!(rt; strip.low() <= r.y0);
+    assert!(rt; r.y1 - 8_388_608 <= strip.low());
+    strip.meets(r).map(|p| (p.a, p.b, p.d))
 }
 
 #[test]
@@ -185,17 +247,9 @@ fn strips_hold_the_edges_that_reach_them(rt: HostRuntime) -> Result<(), Fail> {
     let districts = all_districts(rt.alloc())?;
     let square = districts.get(6).ok_or("no such district")?;
     let strips = square.strips(rt.alloc(), 0)?;
-    assert_eq!(rt; strips.strip(0).edge_count(), 3);
-    assert_eq!(rt; strips.strip(1).edge_count(), 2);
-    assert_eq!(rt; strips.strip(61).edge_count(), 3);
-    assert_eq!(rt; strips.strip(63).edge_count(), 0);
-    let strip = strips.strip(30);
+    assert_eq!(rt; edge_counts(&strips), (3, 2, 3, 0));
     let r = rect(&rt, MILLION, 16, 2 * MILLION, 16);
-    assert!(rt; strip.low() <= r.y0);
-    assert!(rt; r.y1 - 8_388_608 <= strip.low());
-    assert_eq!(rt;
-        strip.meets(r).map(|p| (p.a, p.b, p.d)),
-        Some((128_000_000, 256_000_000, 1))
-    );
+    let found = named_by(&rt, strips.strip(30), r);
+    assert_eq!(rt; found, Some((128_000_000, 256_000_000, 1)));
     Ok(())
 }

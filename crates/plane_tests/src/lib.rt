@@ -1,4 +1,4 @@
-// Tests of the crates of places and cells, a module a crate.
+// Tests of the crates of districts and cells, a module a crate.
 // Contract: none; the crate has tests alone.
 #![tactic(auto)]
 
@@ -6,9 +6,3 @@
 mod cells;
 #[cfg(test)]
 mod districts;
-#[cfg(test)]
-mod joins;
-#[cfg(test)]
-mod nights;
-#[cfg(test)]
-mod skies;

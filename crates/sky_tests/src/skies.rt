@@ -9,7 +9,7 @@ use meeus_sky::MeeusSky;
 use method_table::{Asr, Method, Problem, problems};
 use night_portion::{Few, night_problems, repeated};
 use region::{District, RegionFault};
-use std::alloc::Global;
+use std::alloc::{AllocError, Global};
 use std::process::Abort;
 use std::test::Fail;
 use sun_choice::SunChoice;
@@ -65,44 +65,84 @@ fn judged<J: Judge>(rt: &impl Abort, judge: &J, problem: u32, cell: Cell) -> Ver
     judge.judge(Task { problem, cell })
 }
 
+const NOTHING: (i128, i128, i128) = (0, 0, 0);
+
 // What the verdict is, with its point.
 fn told(verdict: Verdict) -> (&'static str, (i128, i128, i128)) {
     match verdict {
-        Verdict::Outside => ("outside", (0, 0, 0)),
-        Verdict::Proved => ("proved", (0, 0, 0)),
+        Verdict::Outside => ("outside", NOTHING),
+        Verdict::Proved => ("proved", NOTHING),
         Verdict::Refuted(p) => ("refuted", (p.a, p.b, p.d)),
-        Verdict::Split => ("split", (0, 0, 0)),
+        Verdict::Split => ("split", NOTHING),
         Verdict::Open(p) => ("open", (p.a, p.b, p.d)),
     }
 }
 
+/// The sky of a district at Greenwich, on this day and with this reference noon.
+fn sky_of(alloc: Global, rings: &[&[(i64, i64)]], day: i32, noon: i32) -> Result<Sky, Fail>
+    requires not_early { neg_ℤ (pos 25567) ≤ℤ day }
+    requires not_late { day ≤ℤ pos 47846 }
+    requires not_negative { pos 0 ≤ℤ noon }
+    requires below_a_day { noon ≤ℤ pos 1439 }
+{
+    let district = district(alloc, rings)?;
+    Ok(Sky::new(alloc, district, problems_of(day, noon))?)
+}
+
+/// The cell is judged so, wherever its point is.
+fn expect_word<J: Judge>(rt: &impl Abort, judge: &J, problem: u32, cell: Cell, word: &str) {
+    let (found, _) = told(judged(rt, judge, problem, cell));
+    assert_eq!(rt; (problem, found), (problem, word));
+}
+
+/// The cell is judged so, with this point.
+fn expect_told<J: Judge>(
+    rt: &impl Abort,
+    judge: &J,
+    problem: u32,
+    cell: Cell,
+    wanted: (&str, (i128, i128, i128)),
+) {
+    let found = told(judged(rt, judge, problem, cell));
+    let (x, y) = (cell.x, cell.y);
+    assert_eq!(rt; (problem, x, y, found), (problem, x, y, wanted));
+}
+
+/// The judge's root is that over the one place.
+fn expect_root<J: Judge>(rt: &impl Abort, judge: &J) {
+    assert_eq!(rt; judge.root(), root_at(100_000, 0));
+}
+
+/// The smallest cell over the one place, at this rank.
+fn cell_of_point(rank: u32) -> Cell {
+    Cell {
+        size: 4,
+        first: rank,
+        last: rank,
+        ..root_at(100_000, 0)
+    }
+}
+
+/// The ranks of 04:45, 05:59, 12:03, 15:29, 18:07, 19:17 and 19:18.
+const RANKS: [(u32, u32); 7] = [
+    (0, 285),
+    (1, 361),
+    (2, 363),
+    (3, 209),
+    (4, 367),
+    (5, 283),
+    (6, 438),
+];
+
 #[test]
 fn one_place_is_judged_as_its_table_says(rt: HostRuntime) -> Result<(), Fail> {
-    let sky = Sky::new(
-        rt.alloc(),
-        district(rt.alloc(), POINT)?,
-        problems_of(DAY, 720),
-    )?;
-    let root = root_at(100_000, 0);
-    assert_eq!(rt; sky.root(), root);
+    let sky = sky_of(rt.alloc(), POINT, DAY, 720)?;
+    expect_root(&rt, &sky);
     assert_eq!(rt; sky.problems(), 7);
     assert_eq!(rt; sky.district().positions(), 4);
-    // The ranks of 04:45, 05:59, 12:03, 15:29, 18:07, 19:17 and 19:18.
-    for (problem, rank) in [
-        (0, 285),
-        (1, 361),
-        (2, 363),
-        (3, 209),
-        (4, 367),
-        (5, 283),
-        (6, 438),
-    ] {
-        assert_eq!(rt;
-            told(judged(&rt, &sky, problem, root)).0,
-            "split",
-            "{problem}"
-        );
-        holds_from(&rt, &sky, problem, rank);
+    for (problem, rank) in &RANKS {
+        expect_word(&rt, &sky, *problem, root_at(100_000, 0), "split");
+        holds_from(&rt, &sky, *problem, *rank);
     }
     Ok(())
 }
@@ -110,27 +150,10 @@ fn one_place_is_judged_as_its_table_says(rt: HostRuntime) -> Result<(), Fail> {
 // At this rank the place's own cell is proved, and at the one before it is refuted.
 fn holds_from<J: Judge>(rt: &impl Abort, judge: &J, problem: u32, rank: u32) {
     assert!(rt; 1 <= rank);
-    let place = Cell {
-        size: 4,
-        first: rank,
-        last: rank,
-        ..judge.root()
-    };
-    let before = Cell {
-        first: rank - 1,
-        last: rank - 1,
-        ..place
-    };
-    assert_eq!(rt;
-        judged(rt, judge, problem, place),
-        Verdict::Proved,
-        "{problem}"
-    );
-    assert_eq!(rt;
-        told(judged(rt, judge, problem, before)),
-        ("refuted", (12_800_000, 0, 1)),
-        "{problem}"
-    );
+    let place = cell_of_point(rank);
+    let before = cell_of_point(rank - 1);
+    expect_told(rt, judge, problem, place, ("proved", NOTHING));
+    expect_told(rt, judge, problem, before, ("refuted", (12_800_000, 0, 1)));
 }
 
 // A problem, a cell by its corner, size and ranks, and the verdict with its point.
@@ -141,8 +164,6 @@ type Case = (
     &'static str,
     (i128, i128, i128),
 );
-
-const NOTHING: (i128, i128, i128) = (0, 0, 0);
 
 // As a slow reference program answers for the square with a hole.
 const CASES: &[Case] = &[
@@ -317,11 +338,7 @@ const CASES: &[Case] = &[
 
 #[test]
 fn cells_are_judged_as_by_the_reference(rt: HostRuntime) -> Result<(), Fail> {
-    let sky = Sky::new(
-        rt.alloc(),
-        district(rt.alloc(), SQUARE)?,
-        problems_of(DAY, 712),
-    )?;
+    let sky = sky_of(rt.alloc(), SQUARE, DAY, 712)?;
     for case in CASES {
         let (problem, (x, y, size), (first, last), word, point) = *case;
         let cell = Cell {
@@ -331,62 +348,54 @@ fn cells_are_judged_as_by_the_reference(rt: HostRuntime) -> Result<(), Fail> {
             first,
             last,
         };
-        assert_eq!(rt;
-            told(judged(&rt, &sky, problem, cell)),
-            (word, point),
-            "{problem} at {x} {y}"
-        );
+        expect_told(&rt, &sky, problem, cell, (word, point));
     }
     Ok(())
 }
 
 #[test]
 fn a_sky_turns_to_another_day(rt: HostRuntime) -> Result<(), Fail> {
-    let mut sky = Sky::new(
-        rt.alloc(),
-        district(rt.alloc(), POINT)?,
-        problems_of(DAY, 720),
-    )?;
-    let root = root_at(100_000, 0);
-    assert_eq!(rt; sky.root(), root);
-    let noon = Cell {
-        size: 4,
-        first: 363,
-        last: 363,
-        ..root
-    };
-    assert_eq!(rt; told(judged(&rt, &sky, 2, noon)).0, "proved");
+    let mut sky = sky_of(rt.alloc(), POINT, DAY, 720)?;
+    let noon = cell_of_point(363);
+    expect_root(&rt, &sky);
+    expect_word(&rt, &sky, 2, noon, "proved");
     // Half a year later the sun passes the meridian a minute later.
     sky.turn_to(problems_of(DAY + 180, 720));
-    assert_eq!(rt; told(judged(&rt, &sky, 2, noon)).0, "refuted");
+    expect_word(&rt, &sky, 2, noon, "refuted");
     assert_eq!(rt; sky.problem(2).base, 180 * 1440 - 720);
-    assert_eq!(rt; sky.root(), root);
+    expect_root(&rt, &sky);
     Ok(())
 }
 
 // Two weeks on, Isha is at 19:23 by the sun of the observatory and at 19:22 by that of Meeus: ranks 443 and 442.
 #[test]
 fn the_sky_of_meeus_judges_otherwise(rt: HostRuntime) -> Result<(), Fail> {
-    let problems = problems_of(DAY + 14, 720);
-    let sky = Sky::new(rt.alloc(), district(rt.alloc(), POINT)?, problems)?;
+    let sky = sky_of(rt.alloc(), POINT, DAY + 14, 720)?;
     holds_from(&rt, &sky, 6, 443);
     holds_from(&rt, &sky.under(SunChoice::Meeus), 6, 442);
-    let meeus = MeeusSky::new(rt.alloc(), district(rt.alloc(), POINT)?, problems)?;
+    let place = district(rt.alloc(), POINT)?;
+    let meeus = MeeusSky::new(rt.alloc(), place, problems_of(DAY + 14, 720))?;
     assert_eq!(rt; meeus.district().positions(), 4);
     holds_from(&rt, &meeus, 6, 442);
     Ok(())
 }
 
-#[test]
-fn the_sky_of_meeus_turns_to_another_day(rt: HostRuntime) -> Result<(), Fail> {
+/// The sky of Meeus over the one place, with the root that is given.
+fn meeus_sky_in(rt: &(impl Abort + AllocGlobal)) -> Result<MeeusSky, Fail> {
     let place = district(rt.alloc(), POINT)?;
     assert!(rt; place.west() == 100_000);
     assert!(rt; place.east() == 100_000);
     assert!(rt; place.south() == 0);
     assert!(rt; place.north() == 0);
     let root = root_at(100_000, 0);
-    let mut sky = MeeusSky::new_in(rt.alloc(), place, problems_of(DAY, 720), root)?;
-    assert_eq!(rt; sky.root(), root);
+    let problems = problems_of(DAY, 720);
+    Ok(MeeusSky::new_in(rt.alloc(), place, problems, root)?)
+}
+
+#[test]
+fn the_sky_of_meeus_turns_to_another_day(rt: HostRuntime) -> Result<(), Fail> {
+    let mut sky = meeus_sky_in(&rt)?;
+    expect_root(&rt, &sky);
     holds_from(&rt, &sky, 6, 438);
     sky.turn_to(problems_of(DAY + 14, 720));
     assert_eq!(rt; sky.problem(6).base, 14 * 1440 - 720);
@@ -396,11 +405,7 @@ fn the_sky_of_meeus_turns_to_another_day(rt: HostRuntime) -> Result<(), Fail> {
 
 #[test]
 fn sunrise_and_sunset_are_judged_as_the_first_of_a_sky(rt: HostRuntime) -> Result<(), Fail> {
-    let mut sky = Sky::new(
-        rt.alloc(),
-        district(rt.alloc(), POINT)?,
-        problems_of(DAY, 720),
-    )?;
+    let mut sky = sky_of(rt.alloc(), POINT, DAY, 720)?;
     sky.turn_to(repeated(&night_problems(DAY, 0, 720, 0)));
     assert!(rt; 2 <= sky.problems());
     let few = Few::new(&sky, 2);
@@ -412,76 +417,71 @@ fn sunrise_and_sunset_are_judged_as_the_first_of_a_sky(rt: HostRuntime) -> Resul
     Ok(())
 }
 
-// The verdict of two judges as one.
-fn judged_of_two<J: Judge>(rt: &impl Abort, judges: &[J; 2], problem: u32, cell: Cell) -> Verdict {
+// The verdict of two judges as one, without its point.
+fn expect_of_two<J: Judge>(rt: &impl Abort, judges: &[J; 2], problem: u32, cell: Cell, word: &str) {
     assert!(rt; judges[0].problems() == 7 && judges[1].problems() == 7);
     assert!(rt; judges[0].root() == judges[1].root());
-    judged(rt, &SetSky::new(judges), problem, cell)
+    expect_word(rt, &SetSky::new(judges), problem, cell, word);
 }
 
 #[test]
 fn each_problem_of_a_set_is_judged_by_its_own_sky(rt: HostRuntime) -> Result<(), Fail> {
-    let first = Sky::new(
-        rt.alloc(),
-        district(rt.alloc(), POINT)?,
-        problems_of(DAY, 720),
-    )?;
-    let second = Sky::new(
-        rt.alloc(),
-        district(rt.alloc(), POINT)?,
-        problems_of(DAY + 180, 720),
-    )?;
-    let skies = [first, second];
-    let noon = Cell {
-        size: 4,
-        first: 363,
-        last: 363,
-        ..root_at(100_000, 0)
-    };
-    assert_eq!(rt; told(judged_of_two(&rt, &skies, 2, noon)).0, "proved");
-    assert_eq!(rt; told(judged_of_two(&rt, &skies, 9, noon)).0, "refuted");
+    let skies = [
+        sky_of(rt.alloc(), POINT, DAY, 720)?,
+        sky_of(rt.alloc(), POINT, DAY + 180, 720)?,
+    ];
+    expect_of_two(&rt, &skies, 2, cell_of_point(363), "proved");
+    expect_of_two(&rt, &skies, 9, cell_of_point(363), "refuted");
     Ok(())
 }
 
-// So many squares of a thousandth of a degree beside each other on the equator, as far apart.
+// A square of a thousandth of a degree whose least longitude is this.
+fn square(alloc: Global, west: i64) -> Result<Vec<Vec<(i64, i64)>>, AllocError>
+    requires low { pos 0 ≤ℤ west }
+    requires high { west ≤ℤ pos 2000000 }
+{
+    let east = west + 1_000;
+    let ring = [
+        (west, 0),
+        (east, 0),
+        (east, 1_000),
+        (west, 1_000),
+        (west, 0),
+    ];
+    Ok(vec![in alloc; ring.to_vec(alloc)?]?)
+}
+
+// So many of these squares beside each other on the equator, as far apart.
 fn squares(alloc: Global, count: u32) -> Result<District, RegionFault>
     requires { count ≤ 1000 }
 {
     let mut polygons = Vec::new(alloc);
     for i in 0..count {
-        let west = i64::from(i) * 2_000;
-        let east = west + 1_000;
-        let mut ring = Vec::new(alloc);
-        ring.push((west, 0))?;
-        ring.push((east, 0))?;
-        ring.push((east, 1_000))?;
-        ring.push((west, 1_000))?;
-        ring.push((west, 0))?;
-        let mut rings = Vec::new(alloc);
-        rings.push(ring)?;
-        polygons.push(rings)?;
+        polygons.push(square(alloc, i64::from(i) * 2_000)?)?;
     }
     District::new(alloc, polygons)
 }
 
+// The smallest cell of this corner, at the last rank.
+fn last_cell(x: i64) -> Cell {
+    Cell {
+        x,
+        y: 64_000,
+        size: 4,
+        first: 720,
+        last: 720,
+    }
+}
+
 #[test]
 fn each_of_a_hundred_polygons_is_judged(rt: HostRuntime) -> Result<(), Fail> {
-    let sky = Sky::new(rt.alloc(), squares(rt.alloc(), 100)?, problems_of(DAY, 720))?;
+    let place = squares(rt.alloc(), 100)?;
+    let sky = Sky::new(rt.alloc(), place, problems_of(DAY, 720))?;
     assert_eq!(rt; sky.district().polygon_count(), 100);
     for i in 0..100 {
-        let inside = Cell {
-            x: i64::from(i) * 256_000 + 64_000,
-            y: 64_000,
-            size: 4,
-            first: 720,
-            last: 720,
-        };
-        let between = Cell {
-            x: inside.x + 128_000,
-            ..inside
-        };
-        assert_eq!(rt; judged(&rt, &sky, 0, inside), Verdict::Proved, "{i}");
-        assert_eq!(rt; judged(&rt, &sky, 0, between), Verdict::Outside, "{i}");
+        let x = i64::from(i) * 256_000 + 64_000;
+        expect_told(&rt, &sky, 0, last_cell(x), ("proved", NOTHING));
+        expect_told(&rt, &sky, 0, last_cell(x + 128_000), ("outside", NOTHING));
     }
     Ok(())
 }

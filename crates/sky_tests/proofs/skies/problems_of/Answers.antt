@@ -6,7 +6,7 @@ use Rattle.method_table.specs.declared.method.Asr.TheVariants.{Standard}
 use Rattle.method_table.specs.declared.method.Method.TheVariants.{Mwl}
 use Rattle.cell_judge.specs.DayLaws.{IsDay}
 use Rattle.cell_judge.proofs.DayLaws.{days_are_in_limits}
-use Rattle.plane_tests.proofs.skies.problems_of.Goals as goal
+use Rattle.sky_tests.proofs.skies.problems_of.Goals as goal
 
 pub returns : goal.returns
 returns c =
