@@ -1,5 +1,5 @@
 // Runs of the words of a line, and what they answer.
-use crate::streams::{sink, source};
+use crate::streams::{sink, slow_source, source};
 use no_memory::NoMemory;
 use source_sink::{MemSink, Source};
 use std::alloc::Global;
@@ -75,9 +75,18 @@ pub fn run_plain_line<S: Source>(
     Ok(Answer { status, out, err })
 }
 
+/// Two sinks: the room of each, and the numbers of its calls that fail.
+fn sinks(
+    alloc: Global,
+    (out, out_fails): (usize, &[u32]),
+    (err, err_fails): (usize, &[u32]),
+) -> Result<(MemSink, MemSink), NoMemory> {
+    Ok((sink(alloc, out, out_fails)?, sink(alloc, err, err_fails)?))
+}
+
 /// Sinks with room for every text of a test.
 fn wide_sinks(alloc: Global) -> Result<(MemSink, MemSink), NoMemory> {
-    Ok((sink(alloc, 100_000, &[])?, sink(alloc, 300, &[])?))
+    sinks(alloc, (100_000, &[]), (300, &[]))
 }
 
 /// What the words of a line answer to an input, where each worker passes the gate.
@@ -100,9 +109,58 @@ pub fn answer_to<R: Threads + Wait + Sync + AllocGlobal>(
     answer_through(rt, line, input, &OpenGate)
 }
 
+/// What the words of a line answer to an input, into streams with so much room whose calls with these numbers fail.
+pub fn answer_into<R: Threads + Wait + Sync + AllocGlobal>(
+    rt: &R,
+    line: &str,
+    input: &[u8],
+    out: (usize, &[u32]),
+    err: (usize, &[u32]),
+) -> Result<Answer, NoMemory> {
+    let mut source = source(rt.alloc(), input)?;
+    let sinks = sinks(rt.alloc(), out, err)?;
+    run_through(rt, line, &mut source, sinks, &OpenGate)
+}
+
+/// What the words of a line answer to an input of one byte a call, whose calls with these numbers fail.
+pub fn slow_answer_to<R: Threads + Wait + Sync + AllocGlobal>(
+    rt: &R,
+    line: &str,
+    input: &[u8],
+    failing: &[u32],
+) -> Result<Answer, NoMemory> {
+    let mut source = slow_source(rt.alloc(), input, failing)?;
+    run_through(rt, line, &mut source, wide_sinks(rt.alloc())?, &OpenGate)
+}
+
 /// What the words of a line answer to an input on one thread.
 pub fn plain_answer_to(alloc: Global, line: &str, input: &[u8]) -> Result<Answer, NoMemory> {
     let mut source = source(alloc, input)?;
+    let (out, err) = wide_sinks(alloc)?;
+    run_plain_line(alloc, line, &mut source, out, err)
+}
+
+/// The same into streams with so much room whose calls with these numbers fail.
+pub fn plain_answer_into(
+    alloc: Global,
+    line: &str,
+    input: &[u8],
+    out: (usize, &[u32]),
+    err: (usize, &[u32]),
+) -> Result<Answer, NoMemory> {
+    let mut source = source(alloc, input)?;
+    let (out, err) = sinks(alloc, out, err)?;
+    run_plain_line(alloc, line, &mut source, out, err)
+}
+
+/// What the words of a line answer on one thread to an input of one byte a call, whose calls with these numbers fail.
+pub fn plain_slow_answer_to(
+    alloc: Global,
+    line: &str,
+    input: &[u8],
+    failing: &[u32],
+) -> Result<Answer, NoMemory> {
+    let mut source = slow_source(alloc, input, failing)?;
     let (out, err) = wide_sinks(alloc)?;
     run_plain_line(alloc, line, &mut source, out, err)
 }

@@ -3,11 +3,17 @@
 #![tactic(auto)]
 
 mod answers;
+mod expected;
 mod orders;
 mod streams;
 
 pub use answers::{
-    Answer, answer_through, answer_to, plain_answer_to, run_line, run_plain_line, text_of,
+    Answer, answer_into, answer_through, answer_to, plain_answer_into, plain_answer_to,
+    plain_slow_answer_to, run_line, run_plain_line, slow_answer_to, text_of,
 };
-pub use orders::{FIRST_DAYS, ORDER_A, ORDER_B, TABLE_B, USAGE, order_over};
+pub use expected::{
+    FAULT, expect, expect_covered, expect_front, expect_plain, expect_text, expect_texts,
+    expect_told, expect_usage,
+};
+pub use orders::{FIRST_DAYS, ORDER_A, ORDER_B, TABLE_B, TEN_DAYS, TWO_PARTS, USAGE, order_over};
 pub use streams::{sink, slow_source, source};

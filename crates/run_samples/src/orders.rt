@@ -25,6 +25,14 @@ date         fajr  f.end  dhuhr    asr   magh  m.end   isha
 2000-01-02  04:45  05:59  12:04  15:29  18:08  19:17  19:18
 2000-01-0";
 
+/// The members of an order for ten days over the month's end.
+pub const TEN_DAYS: &str =
+    r#""from":"2025-02-22","days":10,"method":"makkah","asr":"hanafi","zone":180,"late_isha":[["2025-02-25","2025-03-26"]]"#;
+
+/// Two polygons, one with a hole.
+pub const TWO_PARTS: &str =
+    r#"{"type":"MultiPolygon","coordinates":[[[[39,21],[39.4,21],[39.4,21.4],[39,21.4],[39,21]],[[39.1,21.1],[39.3,21.1],[39.3,21.3],[39.1,21.3],[39.1,21.1]]],[[[39.5,21],[39.6,21.1],[39.5,21.2],[39.5,21]]]]}"#;
+
 /// The line on the error stream for words that are none.
 pub const USAGE: &str =
     "usage: timetable table [--workers W] | cover [--workers W] [--form F] | demo [--number M] [--workers W] | plain | check | order | sun MINUTE LON LAT WHAT [meeus] | set [--workers W] | ical [--workers W] | agenda\n";

@@ -1,8 +1,9 @@
 // The commands `ical` and `agenda`.
-use crate::common::{expect, expect_text, expect_texts, expect_usage};
-use crate::workers::{DISTRICT, MEMBERS};
 use no_memory::NoMemory;
-use run_samples::{Answer, ORDER_B, answer_to, order_over, text_of};
+use run_samples::{
+    Answer, ORDER_B, TEN_DAYS, TWO_PARTS, answer_to, expect, expect_text, expect_texts,
+    expect_usage, order_over, text_of,
+};
 use std::alloc::{AllocError, Global};
 use std::process::Abort;
 use std::sync::Wait;
@@ -48,15 +49,21 @@ fn event_of(alloc: Global, column: &str, time: &str) -> Result<String, AllocErro
     )
 }
 
+/// The calendar's events behind a text.
+fn push_events(alloc: Global, text: &mut String) -> Result<(), AllocError> {
+    for (column, time) in &MINUTES {
+        text.push_str(event_of(alloc, column, time)?.as_str())?;
+    }
+    Ok(())
+}
+
 /// The calendar of one place and one day.
 fn calendar_b(alloc: Global) -> Result<String, AllocError> {
     let mut text = String::from_str(
         alloc,
         "BEGIN:VCALENDAR\r\nVERSION:2.0\r\nPRODID:-//district timetables//ical 1//EN\r\n",
     )?;
-    for (column, time) in &MINUTES {
-        text.push_str(event_of(alloc, column, time)?.as_str())?;
-    }
+    push_events(alloc, &mut text)?;
     text.push_str("END:VCALENDAR\r\n")?;
     Ok(text)
 }
@@ -160,7 +167,7 @@ fn a_first_day_may_begin_in_the_year_before(rt: HostRuntime) -> Result<(), Fail>
 
 #[test]
 fn days_that_are_searched_together_are_in_order(rt: HostRuntime) -> Result<(), Fail> {
-    let order = order_over(rt.alloc(), MEMBERS, DISTRICT)?;
+    let order = order_over(rt.alloc(), TEN_DAYS, TWO_PARTS)?;
     let agenda = agenda_of(&rt, "ical --workers 3", order.as_bytes())?;
     expect_ends(&rt, &agenda, "2025-02-22T", "end events 70\n");
     Ok(())

@@ -1,9 +1,8 @@
 // A city of 300 positions, its tables under both suns, and the order that a number makes.
-use crate::common::{expect_covered, expect_texts};
 use demo_summary::demo_order;
 use no_memory::NoMemory;
 use order_text::order_line;
-use run_samples::order_over;
+use run_samples::{expect_covered, expect_texts, order_over};
 use std::alloc::{AllocError, Global};
 use std::process::Abort;
 use std::sync::Wait;
@@ -38,9 +37,10 @@ date         fajr  f.end  dhuhr    asr   magh  m.end   isha
 end days 7 open 0
 ";
 
-/// A position in microdegrees, with an altitude.
-fn position(alloc: Global, x: u64, y: u64) -> Result<String, AllocError> {
-    format!(in alloc; "[{x}e-6,{y}e-6,277],")
+/// A position in microdegrees, with an altitude, behind a ring's others.
+fn push_position(alloc: Global, ring: &mut String, x: u64, y: u64) -> Result<(), AllocError> {
+    let position = format!(in alloc; "[{x}e-6,{y}e-6,277],")?;
+    ring.push_str(position.as_str())
 }
 
 /// A ring with teeth along both sides: this many positions to the east, as many back, and the first again.
@@ -55,12 +55,12 @@ fn comb(
     for i in 0..count {
         let x = west as u64 + i as u64 * 3_000;
         let y = south as u64 + height as u64 + i as u64 * 7919 % 9000;
-        ring.push_str(position(alloc, x, y)?.as_str())?;
+        push_position(alloc, &mut ring, x, y)?;
     }
     for i in 0..count {
         let x = west as u64 + count as u64 * 3_000 - i as u64 * 3_000;
         let y = south as u64 + i as u64 * 7919 % 9000;
-        ring.push_str(position(alloc, x, y)?.as_str())?;
+        push_position(alloc, &mut ring, x, y)?;
     }
     let y = south as u64 + height as u64;
     let last = format!(in alloc; "[{west}e-6,{y}e-6]]")?;

@@ -7,14 +7,6 @@ mod calendars;
 #[cfg(test)]
 mod city;
 #[cfg(test)]
-mod common;
-#[cfg(test)]
-mod coverings;
-#[cfg(test)]
-mod failing;
-#[cfg(test)]
-mod hostile;
-#[cfg(test)]
 mod sets;
 #[cfg(test)]
 mod workers;

@@ -1,6 +1,5 @@
 // The command `set`: its text whatever the number of workers, and what it refuses.
-use crate::common::{expect, expect_texts};
-use run_samples::ORDER_B;
+use run_samples::{ORDER_B, expect, expect_texts};
 use std::test::Fail;
 use timetable::Status;
 

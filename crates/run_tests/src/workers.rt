@@ -1,19 +1,14 @@
 // The command `table`: its words, its bytes whatever the number of workers, and that workers begin at the same time.
-use crate::common::{expect_texts, expect_told, expect_usage};
-use run_samples::{ORDER_B, TABLE_B, answer_through, answer_to, order_over, text_of};
+use run_samples::{
+    ORDER_B, TABLE_B, TEN_DAYS, TWO_PARTS, answer_through, answer_to, expect_texts, expect_told,
+    expect_usage, order_over, text_of,
+};
 use std::process::Abort;
 use std::sync::atomic::{AtomicU64, Ordering};
 use std::test::Fail;
 use std::thread;
 use steal_pool::Gate;
 use timetable::Status;
-
-/// Two polygons, one with a hole, and ten days over the month's end.
-pub(crate) const MEMBERS: &str =
-    r#""from":"2025-02-22","days":10,"method":"makkah","asr":"hanafi","zone":180,"late_isha":[["2025-02-25","2025-03-26"]]"#;
-
-pub(crate) const DISTRICT: &str =
-    r#"{"type":"MultiPolygon","coordinates":[[[[39,21],[39.4,21],[39.4,21.4],[39,21.4],[39,21]],[[39.1,21.1],[39.3,21.1],[39.3,21.3],[39.1,21.3],[39.1,21.1]]],[[[39.5,21],[39.6,21.1],[39.5,21.2],[39.5,21]]]]}"#;
 
 const WRONG_LINES: [&str; 14] = [
     "table --fast",
@@ -48,7 +43,7 @@ const LINES: [&str; 6] = [
 
 #[test]
 fn any_number_of_workers_writes_the_table_of_one_thread(rt: HostRuntime) -> Result<(), Fail> {
-    let order = order_over(rt.alloc(), MEMBERS, DISTRICT)?;
+    let order = order_over(rt.alloc(), TEN_DAYS, TWO_PARTS)?;
     let plain = answer_to(&rt, "plain", order.as_bytes())?;
     assert!(rt; text_of(&plain.out).ends_with("end days 10 open 0\n"));
     expect_texts(&rt, &LINES, order.as_bytes(), text_of(&plain.out))
@@ -101,7 +96,7 @@ fn two_workers_begin_at_the_same_time(rt: HostRuntime) -> Result<(), Fail> {
     };
     let line = "table --workers 2";
     let answer = answer_through(&rt, line, ORDER_B.as_bytes(), &gate)?;
-    expect_told(&rt, line, &answer, (Status::Done, TABLE_B, ""));
+    expect_told(line, &answer, (Status::Done, TABLE_B, ""))?;
     expect_met(&rt, &gate);
     Ok(())
 }

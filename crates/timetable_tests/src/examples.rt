@@ -1,5 +1,7 @@
 // The example runs over memory: the exact status of each, and all that it writes.
+use no_memory::NoMemory;
 use source_sink::SureSink;
+use std::alloc::Global;
 use std::process::Abort;
 use std::test::Fail;
 use timetable::Status;
@@ -25,71 +27,80 @@ const SUN: &str = "minute 0 lon 0.000000 lat 0.000000 angle 0.000000 above\n";
 /// One byte more than an order or a calendar may have.
 const TOO_MANY: usize = 16_777_217;
 
-/// This is what the sinks hold.
-fn expect_streams(
-    rt: &(impl Abort + AllocGlobal),
-    out: &SureSink,
-    text: &str,
-    err: &SureSink,
-    line: &str,
-) -> Result<(), Fail> {
-    assert_eq!(rt; out.bytes(), text.as_bytes(), "wanted {text}");
-    assert_eq!(rt; err.bytes(), line.as_bytes(), "wanted {line}");
-    Ok(())
+/// What a run answered.
+#[derive(Drop)]
+struct Told {
+    status: Status,
+    out: SureSink,
+    err: SureSink,
+}
+
+/// Two sinks with room for every text of an example.
+fn sinks(alloc: Global) -> Result<(SureSink, SureSink), NoMemory> {
+    Ok((SureSink::new(alloc, 1000)?, SureSink::new(alloc, 300)?))
+}
+
+/// This is the status, and what the sinks hold.
+fn expect(rt: &impl Abort, told: &Told, wanted: (Status, &str, &str)) {
+    let (status, text, line) = wanted;
+    let found = (told.status, told.out.bytes(), told.err.bytes());
+    assert_eq!(rt; found, (status, text.as_bytes(), line.as_bytes()));
 }
 
 #[test]
 fn no_words_get_the_usage_line(rt: HostRuntime) -> Result<(), Fail> {
-    let mut out = SureSink::new(rt.alloc(), 1000)?;
-    let mut err = SureSink::new(rt.alloc(), 300)?;
+    let (mut out, mut err) = sinks(rt.alloc())?;
     let status = no_words(rt.alloc(), &mut out, &mut err);
-    assert_eq!(rt; status, Status::Usage);
-    expect_streams(&rt, &out, "", &err, USAGE)
+    expect(&rt, &Told { status, out, err }, (Status::Usage, "", USAGE));
+    Ok(())
 }
 
 #[test]
 fn the_first_sun_is_above(rt: HostRuntime) -> Result<(), Fail> {
-    let mut out = SureSink::new(rt.alloc(), 1000)?;
-    let mut err = SureSink::new(rt.alloc(), 300)?;
+    let (mut out, mut err) = sinks(rt.alloc())?;
     let status = first_sun(rt.alloc(), &mut out, &mut err)?;
-    assert_eq!(rt; status, Status::Done);
-    expect_streams(&rt, &out, SUN, &err, "")
+    expect(&rt, &Told { status, out, err }, (Status::Done, SUN, ""));
+    Ok(())
 }
 
 #[test]
 fn the_first_order_gets_its_line(rt: HostRuntime) -> Result<(), Fail> {
-    let mut out = SureSink::new(rt.alloc(), 1000)?;
-    let mut err = SureSink::new(rt.alloc(), 300)?;
+    let (mut out, mut err) = sinks(rt.alloc())?;
     let status = first_line(rt.alloc(), &mut out, &mut err)?;
-    assert_eq!(rt; status, Status::Done);
-    expect_streams(&rt, &out, LINE, &err, "")
+    expect(&rt, &Told { status, out, err }, (Status::Done, LINE, ""));
+    Ok(())
 }
 
 #[test]
 fn the_first_order_gets_its_table(rt: HostRuntime) -> Result<(), Fail> {
-    let mut out = SureSink::new(rt.alloc(), 1000)?;
-    let mut err = SureSink::new(rt.alloc(), 300)?;
+    let (mut out, mut err) = sinks(rt.alloc())?;
     let status = first_table(rt.alloc(), &mut out, &mut err)?;
-    assert_eq!(rt; status, Status::Done);
-    expect_streams(&rt, &out, TABLE, &err, "")
+    expect(&rt, &Told { status, out, err }, (Status::Done, TABLE, ""));
+    Ok(())
 }
 
 #[test]
 fn a_long_order_is_refused(rt: HostRuntime) -> Result<(), Fail> {
-    let mut out = SureSink::new(rt.alloc(), 1000)?;
-    let mut err = SureSink::new(rt.alloc(), 300)?;
     let bytes = vec![in rt.alloc(); 32u8; TOO_MANY]?;
+    let (mut out, mut err) = sinks(rt.alloc())?;
     let status = long_order(rt.alloc(), bytes, &mut out, &mut err)?;
-    assert_eq!(rt; status, Status::OrderRefused);
-    expect_streams(&rt, &out, "", &err, "order refused 8 long\n")
+    expect(
+        &rt,
+        &Told { status, out, err },
+        (Status::OrderRefused, "", "order refused 8 long\n"),
+    );
+    Ok(())
 }
 
 #[test]
 fn a_long_calendar_is_refused(rt: HostRuntime) -> Result<(), Fail> {
-    let mut out = SureSink::new(rt.alloc(), 1000)?;
-    let mut err = SureSink::new(rt.alloc(), 300)?;
     let bytes = vec![in rt.alloc(); 32u8; TOO_MANY]?;
+    let (mut out, mut err) = sinks(rt.alloc())?;
     let status = long_calendar(rt.alloc(), bytes, &mut out, &mut err)?;
-    assert_eq!(rt; status, Status::IcalRefused);
-    expect_streams(&rt, &out, "", &err, "ical refused long\n")
+    expect(
+        &rt,
+        &Told { status, out, err },
+        (Status::IcalRefused, "", "ical refused long\n"),
+    );
+    Ok(())
 }

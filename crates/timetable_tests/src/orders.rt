@@ -1,6 +1,8 @@
 // The command `order`: the canonical line of an order, and the first refusal of what is none.
-use crate::common::{FAULT, expect, expect_told};
-use run_samples::{ORDER_A, ORDER_B, order_over, run_plain_line, sink, slow_source, source};
+use run_samples::{
+    FAULT, ORDER_A, ORDER_B, expect_plain, expect_told, order_over, plain_answer_into,
+    plain_slow_answer_to,
+};
 use std::alloc::{AllocError, Global};
 use std::process::Abort;
 use std::test::Fail;
@@ -17,20 +19,38 @@ const MEMBERS: &str = r#""from":"2025-03-01","days":1,"method":"mwl","asr":"stan
 /// The input is refused with this detail, and nothing is written.
 fn expect_refusal(rt: &(impl Abort + AllocGlobal), input: &[u8], detail: &str) -> Result<(), Fail> {
     let line = format!(in rt.alloc(); "order refused {detail}\n")?;
-    expect(rt, "order", input, Status::OrderRefused, "", line.as_str())
+    expect_plain(
+        rt.alloc(),
+        "order",
+        input,
+        Status::OrderRefused,
+        "",
+        line.as_str(),
+    )
 }
 
 /// The order is answered by this line.
 fn expect_line(rt: &(impl Abort + AllocGlobal), order: &str, line: &str) -> Result<(), Fail> {
     let line = format!(in rt.alloc(); "{line}\n")?;
-    expect(
-        rt,
+    expect_plain(
+        rt.alloc(),
         "order",
         order.as_bytes(),
         Status::Done,
         line.as_str(),
         "",
     )
+}
+
+/// The first order with a change is answered by its line with another.
+fn expect_changed(
+    rt: &(impl Abort + AllocGlobal),
+    (old, new): (&str, &str),
+    (line_old, line_new): (&str, &str),
+) -> Result<(), Fail> {
+    let order = ORDER_A.replace(rt.alloc(), old, new)?;
+    let line = LINE_A.replace(rt.alloc(), line_old, line_new)?;
+    expect_line(rt, order.as_str(), line.as_str())
 }
 
 /// What is replaced in the first order and by what, and the same in its line.
@@ -73,9 +93,7 @@ const CHANGES: [(&str, &str, &str, &str); 7] = [
 fn an_order_gets_its_canonical_line(rt: HostRuntime) -> Result<(), Fail> {
     expect_line(&rt, ORDER_A, LINE_A)?;
     for (old, new, line_old, line_new) in &CHANGES {
-        let order = ORDER_A.replace(rt.alloc(), old, new)?;
-        let line = LINE_A.replace(rt.alloc(), line_old, line_new)?;
-        expect_line(&rt, order.as_str(), line.as_str())?;
+        expect_changed(&rt, (old, new), (line_old, line_new))?;
     }
     Ok(())
 }
@@ -95,6 +113,13 @@ fn line_at(alloc: Global, x: &str) -> Result<String, AllocError> {
     )
 }
 
+/// The longitude in degrees is rounded to these microdegrees.
+fn expect_rounded(rt: &(impl Abort + AllocGlobal), degrees: &str, micro: &str) -> Result<(), Fail> {
+    let order = order_at(rt.alloc(), degrees)?;
+    let line = line_at(rt.alloc(), micro)?;
+    expect_line(rt, order.as_str(), line.as_str())
+}
+
 /// Longitudes in degrees, and rounded to microdegrees.
 const ROUNDED: [(&str, &str); 5] = [
     ("46.712345678901234", "46712346"),
@@ -107,9 +132,7 @@ const ROUNDED: [(&str, &str); 5] = [
 #[test]
 fn coordinates_are_rounded_to_microdegrees(rt: HostRuntime) -> Result<(), Fail> {
     for (degrees, micro) in &ROUNDED {
-        let order = order_at(rt.alloc(), degrees)?;
-        let line = line_at(rt.alloc(), micro)?;
-        expect_line(&rt, order.as_str(), line.as_str())?;
+        expect_rounded(&rt, degrees, micro)?;
     }
     Ok(())
 }
@@ -136,15 +159,35 @@ const OTHER_BYTES: [(&[u8], &str); 15] = [
     ),
 ];
 
+/// So many letters are refused with this detail.
+fn expect_letters(
+    rt: &(impl Abort + AllocGlobal),
+    letter: u8,
+    count: usize,
+    detail: &str,
+) -> Result<(), Fail> {
+    let bytes = vec![in rt.alloc(); letter; count]?;
+    expect_refusal(rt, bytes.as_slice(), detail)
+}
+
 #[test]
 fn other_bytes_are_refused_at_their_place(rt: HostRuntime) -> Result<(), Fail> {
     for (input, detail) in &OTHER_BYTES {
         expect_refusal(&rt, input, detail)?;
     }
-    let brackets = "[".repeat(rt.alloc(), 65)?;
-    expect_refusal(&rt, brackets.as_bytes(), "1 json 2 at 64")?;
-    let ones = "1".repeat(rt.alloc(), 65)?;
-    expect_refusal(&rt, ones.as_bytes(), "1 json 3 at 0")
+    expect_letters(&rt, b'[', 65, "1 json 2 at 64")?;
+    expect_letters(&rt, b'1', 65, "1 json 3 at 0")
+}
+
+/// The first order with a change is refused with this detail.
+fn expect_wrong(
+    rt: &(impl Abort + AllocGlobal),
+    old: &str,
+    new: &str,
+    detail: &str,
+) -> Result<(), Fail> {
+    let order = ORDER_A.replace(rt.alloc(), old, new)?;
+    expect_refusal(rt, order.as_bytes(), detail)
 }
 
 /// What is replaced in the first order and by what, and the detail with which it is refused.
@@ -186,8 +229,7 @@ const WRONG_MEMBERS: [(&str, &str, &str); 16] = [
 #[test]
 fn members_are_refused_by_kind_and_range(rt: HostRuntime) -> Result<(), Fail> {
     for (old, new, detail) in &WRONG_MEMBERS {
-        let order = ORDER_A.replace(rt.alloc(), old, new)?;
-        expect_refusal(&rt, order.as_bytes(), detail)?;
+        expect_wrong(&rt, old, new, detail)?;
     }
     Ok(())
 }
@@ -227,12 +269,13 @@ const WRONG_DISTRICTS: [(&str, &str, &str); 12] = [
 #[test]
 fn districts_are_refused_by_form_and_extent(rt: HostRuntime) -> Result<(), Fail> {
     for (old, new, detail) in &WRONG_DISTRICTS {
-        let order = ORDER_A.replace(rt.alloc(), old, new)?;
-        expect_refusal(&rt, order.as_bytes(), detail)?;
+        expect_wrong(&rt, old, new, detail)?;
     }
-    let widest = ORDER_A.replace(rt.alloc(), "[40,21]", "[43.194304,21]")?;
-    let line = LINE_A.replace(rt.alloc(), "[40000000,21000000]", "[43194304,21000000]")?;
-    expect_line(&rt, widest.as_str(), line.as_str())
+    expect_changed(
+        &rt,
+        ("[40,21]", "[43.194304,21]"),
+        ("[40000000,21000000]", "[43194304,21000000]"),
+    )
 }
 
 /// An order for the collection of these features.
@@ -243,31 +286,31 @@ fn order_of_features(alloc: Global, features: &str) -> Result<String, AllocError
     order_over(alloc, MEMBERS, district.as_str())
 }
 
+/// An order for the collection of two features.
+fn order_of_two(alloc: Global) -> Result<String, AllocError> {
+    let features = format!(in alloc; "{FEATURE},{FEATURE}")?;
+    order_of_features(alloc, features.as_str())
+}
+
+/// The collection of one feature is that feature.
+fn expect_one(rt: &(impl Abort + AllocGlobal)) -> Result<(), Fail> {
+    let one = order_of_features(rt.alloc(), FEATURE)?;
+    expect_line(rt, one.as_str(), LINE_A)
+}
+
 #[test]
 fn a_collection_holds_one_feature(rt: HostRuntime) -> Result<(), Fail> {
     let alone = order_over(rt.alloc(), MEMBERS, FEATURE)?;
     expect_line(&rt, alone.as_str(), LINE_A)?;
-    let one = order_of_features(rt.alloc(), FEATURE)?;
-    expect_line(&rt, one.as_str(), LINE_A)?;
-    let features = format!(in rt.alloc(); "{FEATURE},{FEATURE}")?;
-    let two = order_of_features(rt.alloc(), features.as_str())?;
+    expect_one(&rt)?;
+    let two = order_of_two(rt.alloc())?;
     expect_refusal(&rt, two.as_bytes(), "6 geometry")
-}
-
-/// So many letters are refused with this detail.
-fn expect_letters(
-    rt: &(impl Abort + AllocGlobal),
-    length: usize,
-    detail: &str,
-) -> Result<(), Fail> {
-    let bytes = vec![in rt.alloc(); b'x'; length]?;
-    expect_refusal(rt, bytes.as_slice(), detail)
 }
 
 #[test]
 fn an_order_has_at_most_16_777_216_bytes(rt: HostRuntime) -> Result<(), Fail> {
-    expect_letters(&rt, 16_777_216, "1 json 1 at 0")?;
-    expect_letters(&rt, 16_777_217, "8 long")
+    expect_letters(&rt, b'x', 16_777_216, "1 json 1 at 0")?;
+    expect_letters(&rt, b'x', 16_777_217, "8 long")
 }
 
 /// A ring of this many positions and its first one, in microdegrees, each number with these letters behind it.
@@ -289,30 +332,45 @@ fn order_of_positions(alloc: Global, count: u32) -> Result<String, AllocError> {
     order_over(alloc, MEMBERS, district.as_str())
 }
 
+/// Its line.
+fn line_of_positions(alloc: Global, count: u32) -> Result<String, AllocError> {
+    let ring = ring_of(alloc, count, "")?;
+    format!(in alloc; "{{\"version\":1,{MEMBERS},\"district\":[[{ring}]]}}")
+}
+
 #[test]
 fn a_border_has_at_most_4096_positions(rt: HostRuntime) -> Result<(), Fail> {
-    let ring = ring_of(rt.alloc(), 4_095, "")?;
-    let line = format!(in rt.alloc(); "{{\"version\":1,{MEMBERS},\"district\":[[{ring}]]}}")?;
-    expect_line(
-        &rt,
-        order_of_positions(rt.alloc(), 4_095)?.as_str(),
-        line.as_str(),
-    )?;
-    expect_refusal(
-        &rt,
-        order_of_positions(rt.alloc(), 4_096)?.as_bytes(),
-        "7 region 3",
-    )
+    let (order, line) = (
+        order_of_positions(rt.alloc(), 4_095)?,
+        line_of_positions(rt.alloc(), 4_095)?,
+    );
+    expect_line(&rt, order.as_str(), line.as_str())?;
+    let order = order_of_positions(rt.alloc(), 4_096)?;
+    expect_refusal(&rt, order.as_bytes(), "7 region 3")
 }
 
 #[test]
 fn a_failed_read_ends_the_run(rt: HostRuntime) -> Result<(), Fail> {
-    let mut order = slow_source(rt.alloc(), ORDER_B.as_bytes(), &[2])?;
-    let (out, err) = (sink(rt.alloc(), 200, &[])?, sink(rt.alloc(), 200, &[])?);
-    let answer = run_plain_line(rt.alloc(), "order", &mut order, out, err)?;
+    let answer = plain_slow_answer_to(rt.alloc(), "order", ORDER_B.as_bytes(), &[2])?;
     let wanted = (Status::ReadFault, "", "read fault\n");
-    expect_told(&rt, "order", &answer, wanted);
-    Ok(())
+    expect_told("order", &answer, wanted)
+}
+
+/// A write of the line fails: the room of the sink, its call that fails, and what it holds at the end.
+fn expect_fault(
+    rt: &(impl Abort + AllocGlobal),
+    capacity: usize,
+    failing: u32,
+    written: &str,
+) -> Result<(), Fail> {
+    let answer = plain_answer_into(
+        rt.alloc(),
+        "order",
+        ORDER_B.as_bytes(),
+        (capacity, &[failing]),
+        (200, &[]),
+    )?;
+    expect_told("order", &answer, (Status::WriteFault, written, FAULT))
 }
 
 /// The room of a sink, its call that fails, and what it holds at the end.
@@ -321,11 +379,7 @@ const FAULTS: [(usize, u32, &str); 3] = [(200, 1, ""), (200, 3, "{\""), (2, 9, "
 #[test]
 fn a_failed_write_is_no_want_of_memory(rt: HostRuntime) -> Result<(), Fail> {
     for (capacity, failing, written) in &FAULTS {
-        let mut order = source(rt.alloc(), ORDER_B.as_bytes())?;
-        let out = sink(rt.alloc(), *capacity, &[*failing])?;
-        let err = sink(rt.alloc(), 200, &[])?;
-        let answer = run_plain_line(rt.alloc(), "order", &mut order, out, err)?;
-        expect_told(&rt, "order", &answer, (Status::WriteFault, written, FAULT));
+        expect_fault(&rt, *capacity, *failing, written)?;
     }
     Ok(())
 }

@@ -1,6 +1,10 @@
 // The command `sun`: its words, its line and its sinks.
-use crate::common::{FAULT, expect, expect_front, expect_told};
-use run_samples::{USAGE, run_plain_line, sink, source};
+use no_memory::NoMemory;
+use run_samples::{
+    Answer, FAULT, USAGE, expect_front, expect_plain, expect_told, plain_answer_into,
+    run_plain_line, source,
+};
+use std::alloc::Global;
 use std::test::Fail;
 use timetable::Status;
 
@@ -48,7 +52,7 @@ const WRONG_WORDS: [&str; 36] = [
 #[test]
 fn wrong_words_get_the_usage_line(rt: HostRuntime) -> Result<(), Fail> {
     for words in &WRONG_WORDS {
-        expect(&rt, words, b"", Status::Usage, "", USAGE)?;
+        expect_plain(rt.alloc(), words, b"", Status::Usage, "", USAGE)?;
     }
     Ok(())
 }
@@ -113,35 +117,36 @@ const RIGHT_WORDS: [(&str, &str); 14] = [
 #[test]
 fn right_words_get_a_line(rt: HostRuntime) -> Result<(), Fail> {
     for (words, line) in &RIGHT_WORDS {
-        expect(&rt, words, b"", Status::Done, line, "")?;
+        expect_plain(rt.alloc(), words, b"", Status::Done, line, "")?;
     }
     Ok(())
 }
 
+/// What the words answer into the streams of an earlier run.
+fn again(alloc: Global, line: &str, answer: Answer) -> Result<Answer, NoMemory> {
+    let mut source = source(alloc, b"")?;
+    run_plain_line(alloc, line, &mut source, answer.out, answer.err)
+}
+
 #[test]
 fn a_failed_write_is_no_later_fault(rt: HostRuntime) -> Result<(), Fail> {
-    let mut source = source(rt.alloc(), b"")?;
-    let (out, err) = (sink(rt.alloc(), 200, &[1])?, sink(rt.alloc(), 200, &[])?);
-    let first = run_plain_line(rt.alloc(), "sun 0 0 0 0", &mut source, out, err)?;
-    expect_told(&rt, "first", &first, (Status::WriteFault, "", FAULT));
-    let second = run_plain_line(rt.alloc(), "sun 0 0 0 0", &mut source, first.out, first.err)?;
-    expect_told(&rt, "second", &second, (Status::Done, LINE, FAULT));
-    Ok(())
+    let line = "sun 0 0 0 0";
+    let first = plain_answer_into(rt.alloc(), line, b"", (200, &[1]), (200, &[]))?;
+    expect_told("first", &first, (Status::WriteFault, "", FAULT))?;
+    let second = again(rt.alloc(), line, first)?;
+    expect_told("second", &second, (Status::Done, LINE, FAULT))
 }
 
 #[test]
 fn a_failing_error_stream_is_passed_over(rt: HostRuntime) -> Result<(), Fail> {
-    let mut source = source(rt.alloc(), b"")?;
-    let (out, err) = (sink(rt.alloc(), 0, &[])?, sink(rt.alloc(), 200, &[1])?);
-    let answer = run_plain_line(rt.alloc(), "sun", &mut source, out, err)?;
-    expect_told(&rt, "sun", &answer, (Status::Usage, "", ""));
-    Ok(())
+    let answer = plain_answer_into(rt.alloc(), "sun", b"", (0, &[]), (200, &[1]))?;
+    expect_told("sun", &answer, (Status::Usage, "", ""))
 }
 
 #[test]
 fn a_full_sink_holds_the_first_bytes(rt: HostRuntime) -> Result<(), Fail> {
     for capacity in 0..LINE.len() {
-        expect_front(&rt, "sun 0 0 0 0", b"", LINE, capacity)?;
+        expect_front(rt.alloc(), "sun 0 0 0 0", b"", LINE, capacity)?;
     }
     Ok(())
 }

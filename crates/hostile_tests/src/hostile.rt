@@ -1,6 +1,5 @@
 // The command `check`: hostile coverings of one place and one day, and nights.
-use crate::common::{expect, expect_covered, expect_texts};
-use run_samples::{ORDER_B, TABLE_B, answer_to, text_of};
+use run_samples::{ORDER_B, TABLE_B, answer_to, expect, expect_covered, expect_texts, text_of};
 use std::process::Abort;
 use std::sync::Wait;
 use std::test::Fail;

@@ -1,8 +1,9 @@
 // The commands `cover`, `check` and `demo`.
-use crate::common::{expect, expect_covered, expect_text, expect_usage};
 use crate::hostile::HEAD;
-use crate::workers::{DISTRICT, MEMBERS};
-use run_samples::{ORDER_B, TABLE_B, answer_to, order_over, text_of};
+use run_samples::{
+    ORDER_B, TABLE_B, TEN_DAYS, TWO_PARTS, answer_to, expect, expect_covered, expect_text,
+    expect_usage, order_over, text_of,
+};
 use std::alloc::{AllocError, Global};
 use std::process::Abort;
 use std::sync::Wait;
@@ -63,15 +64,20 @@ const LETTERS: [(&str, &str); 12] = [
     (r#""r":284"#, "fault 1"),
 ];
 
+/// A line behind the text, where there is one.
+fn push_line(text: &mut String, line: &str) -> Result<(), AllocError> {
+    if line.is_empty() {
+        return Ok(());
+    }
+    text.push_str(line)?;
+    text.push_str("\n")
+}
+
 /// The covering with another line of this number, from 1, or without it.
 fn covering_with(alloc: Global, number: usize, line: &str) -> Result<String, AllocError> {
     let mut text = String::new(alloc);
     for (i, own) in COVERING_B.iter().enumerate() {
-        let here = if i + 1 == number { line } else { own };
-        if !here.is_empty() {
-            text.push_str(here)?;
-            text.push_str("\n")?;
-        }
+        push_line(&mut text, if i + 1 == number { line } else { own })?;
     }
     Ok(text)
 }
@@ -104,7 +110,7 @@ fn expect_both_covered<R: Threads + Wait + Sync + Abort + AllocGlobal>(
 
 #[test]
 fn a_covering_shows_its_table(rt: HostRuntime) -> Result<(), Fail> {
-    let order = order_over(rt.alloc(), MEMBERS, DISTRICT)?;
+    let order = order_over(rt.alloc(), TEN_DAYS, TWO_PARTS)?;
     let plain = answer_to(&rt, "plain", order.as_bytes())?;
     expect_both_covered(&rt, order.as_bytes(), text_of(&plain.out))
 }
@@ -129,6 +135,15 @@ fn expect_fault<R: Threads + Wait + Sync + Abort + AllocGlobal>(
     )
 }
 
+/// The covering with another line on Fajr shows the whole table.
+fn expect_good<R: Threads + Wait + Sync + Abort + AllocGlobal>(
+    rt: &R,
+    line: &str,
+) -> Result<(), Fail> {
+    let covering = covering_with(rt.alloc(), 2, line)?;
+    expect_text(rt, "check", covering.as_bytes(), TABLE_B)
+}
+
 /// Another line on Fajr, which shows the whole table, or is refused with this fault.
 fn expect_letters<R: Threads + Wait + Sync + Abort + AllocGlobal>(
     rt: &R,
@@ -136,11 +151,11 @@ fn expect_letters<R: Threads + Wait + Sync + Abort + AllocGlobal>(
     fault: &str,
 ) -> Result<(), Fail> {
     let line = format!(in rt.alloc(); "{FAJR}{letters}}}")?;
-    if !fault.is_empty() {
-        return expect_fault(rt, 2, line.as_str(), fault);
+    if fault.is_empty() {
+        expect_good(rt, line.as_str())
+    } else {
+        expect_fault(rt, 2, line.as_str(), fault)
     }
-    let covering = covering_with(rt.alloc(), 2, line.as_str())?;
-    expect_text(rt, "check", covering.as_bytes(), TABLE_B)
 }
 
 #[test]

@@ -1,8 +1,8 @@
 // The command `plain`: the table of an order, its entries, its sources and sinks.
-use crate::common::{FAULT, expect, expect_front, expect_told};
+use no_memory::NoMemory;
 use run_samples::{
-    Answer, FIRST_DAYS, ORDER_B, TABLE_B, order_over, plain_answer_to, run_plain_line, sink,
-    slow_source, source,
+    Answer, FAULT, FIRST_DAYS, ORDER_B, TABLE_B, expect_front, expect_plain, expect_told,
+    order_over, plain_answer_into, plain_answer_to, plain_slow_answer_to,
 };
 use std::alloc::{AllocError, Global};
 use std::process::Abort;
@@ -78,20 +78,27 @@ fn expect_entries(
 
 #[test]
 fn an_order_gets_its_table(rt: HostRuntime) -> Result<(), Fail> {
-    expect(&rt, "plain", ORDER_B.as_bytes(), Status::Done, TABLE_B, "")?;
+    expect_plain(
+        rt.alloc(),
+        "plain",
+        ORDER_B.as_bytes(),
+        Status::Done,
+        TABLE_B,
+        "",
+    )?;
     let members =
         r#""from":"2025-03-01","days":1,"method":"egypt","asr":"hanafi","zone":180,"height":277"#;
     let order = order_over(rt.alloc(), members, PARTS)?;
-    expect(
-        &rt,
+    expect_plain(
+        rt.alloc(),
         "plain",
         order.as_bytes(),
         Status::Done,
         TABLE_OF_PARTS,
         "",
     )?;
-    expect(
-        &rt,
+    expect_plain(
+        rt.alloc(),
         "plain",
         b"{}",
         Status::OrderRefused,
@@ -189,11 +196,8 @@ fn a_rule_gives_the_offset_at_noon(rt: HostRuntime) -> Result<(), Fail> {
 
 #[test]
 fn bytes_come_and_go_one_by_one(rt: HostRuntime) -> Result<(), Fail> {
-    let mut order = slow_source(rt.alloc(), ORDER_B.as_bytes(), &[])?;
-    let (out, err) = (sink(rt.alloc(), 2000, &[])?, sink(rt.alloc(), 200, &[])?);
-    let answer = run_plain_line(rt.alloc(), "plain", &mut order, out, err)?;
-    expect_told(&rt, "plain", &answer, (Status::Done, TABLE_B, ""));
-    Ok(())
+    let answer = plain_slow_answer_to(rt.alloc(), "plain", ORDER_B.as_bytes(), &[])?;
+    expect_told("plain", &answer, (Status::Done, TABLE_B, ""))
 }
 
 fn expect_told_at(rt: &impl Abort, number: u32, answer: &Answer, wanted: (Status, &str, &str)) {
@@ -202,9 +206,7 @@ fn expect_told_at(rt: &impl Abort, number: u32, answer: &Answer, wanted: (Status
 
 /// The source's call of this number fails.
 fn expect_read_fault(rt: &(impl Abort + AllocGlobal), number: u32) -> Result<(), Fail> {
-    let mut order = slow_source(rt.alloc(), ORDER_B.as_bytes(), &[number])?;
-    let (out, err) = (sink(rt.alloc(), 2000, &[])?, sink(rt.alloc(), 200, &[])?);
-    let answer = run_plain_line(rt.alloc(), "plain", &mut order, out, err)?;
+    let answer = plain_slow_answer_to(rt.alloc(), "plain", ORDER_B.as_bytes(), &[number])?;
     let wanted = (Status::ReadFault, "", "read fault\n");
     expect_told_at(rt, number, &answer, wanted);
     Ok(())
@@ -221,19 +223,21 @@ fn each_failed_read_ends_the_run_with_nothing_written(rt: HostRuntime) -> Result
 #[test]
 fn a_full_sink_holds_the_first_bytes_of_the_table(rt: HostRuntime) -> Result<(), Fail> {
     for capacity in 0..TABLE_B.len() {
-        expect_front(&rt, "plain", ORDER_B.as_bytes(), TABLE_B, capacity)?;
+        expect_front(rt.alloc(), "plain", ORDER_B.as_bytes(), TABLE_B, capacity)?;
     }
     Ok(())
+}
+
+/// What `plain` answers to an order where the write in the third row fails.
+fn first_days(alloc: Global, order: &[u8]) -> Result<Answer, NoMemory> {
+    let failing = FIRST_DAYS.len() as u32 + 1;
+    plain_answer_into(alloc, "plain", order, (2000, &[failing]), (200, &[]))
 }
 
 #[test]
 fn a_failed_write_leaves_the_days_before_it(rt: HostRuntime) -> Result<(), Fail> {
     let days = ORDER_B.replace(rt.alloc(), r#""days":1"#, r#""days":3"#)?;
-    let mut order = source(rt.alloc(), days.as_bytes())?;
-    let out = sink(rt.alloc(), 2000, &[FIRST_DAYS.len() as u32 + 1])?;
-    let err = sink(rt.alloc(), 200, &[])?;
-    let answer = run_plain_line(rt.alloc(), "plain", &mut order, out, err)?;
+    let answer = first_days(rt.alloc(), days.as_bytes())?;
     let wanted = (Status::WriteFault, FIRST_DAYS, FAULT);
-    expect_told(&rt, "plain", &answer, wanted);
-    Ok(())
+    expect_told("plain", &answer, wanted)
 }

@@ -1,6 +1,5 @@
 // Orders with the sun of Meeus, or with a rule for nights.
-use crate::common::expect;
-use run_samples::{ORDER_A, ORDER_B};
+use run_samples::{ORDER_A, ORDER_B, expect_plain};
 use std::alloc::{AllocError, Global};
 use std::test::Fail;
 use timetable::Status;
@@ -47,7 +46,14 @@ const LINES: [(&str, Status, &str, &str); 5] = [
 fn suns_and_rules_stand_in_the_line(rt: HostRuntime) -> Result<(), Fail> {
     for (more, status, line, refusal) in &LINES {
         let order = with_member(rt.alloc(), ORDER_A, more)?;
-        expect(&rt, "order", order.as_bytes(), *status, line, refusal)?;
+        expect_plain(
+            rt.alloc(),
+            "order",
+            order.as_bytes(),
+            *status,
+            line,
+            refusal,
+        )?;
     }
     Ok(())
 }
@@ -94,7 +100,14 @@ const TABLES: [(&str, &str, &str); 3] = [
 fn suns_and_rules_have_their_tables(rt: HostRuntime) -> Result<(), Fail> {
     for (order, more, table) in &TABLES {
         let order = with_member(rt.alloc(), order, more)?;
-        expect(&rt, "plain", order.as_bytes(), Status::Done, table, "")?;
+        expect_plain(
+            rt.alloc(),
+            "plain",
+            order.as_bytes(),
+            Status::Done,
+            table,
+            "",
+        )?;
     }
     Ok(())
 }

@@ -1,8 +1,8 @@
 // Reads, writes and reports that fail, through each command that has an input.
-use crate::common::{expect, expect_told};
 use no_memory::NoMemory;
 use run_samples::{
-    Answer, FIRST_DAYS, ORDER_B, TABLE_B, answer_to, run_line, sink, slow_source, source, text_of,
+    Answer, FIRST_DAYS, ORDER_B, TABLE_B, answer_into, answer_to, expect, expect_told, run_line,
+    sink, slow_answer_to, source, text_of,
 };
 use source_sink::MemSink;
 use std::process::Abort;
@@ -39,9 +39,7 @@ fn expect_read_fault<R: Threads + Wait + Sync + Abort + AllocGlobal>(
     line: &str,
     number: u32,
 ) -> Result<(), Fail> {
-    let mut order = slow_source(rt.alloc(), ORDER_B.as_bytes(), &[number])?;
-    let (out, err) = (sink(rt.alloc(), 100, &[])?, sink(rt.alloc(), 100, &[])?);
-    let answer = run_line(rt, line, &mut order, out, err)?;
+    let answer = slow_answer_to(rt, line, ORDER_B.as_bytes(), &[number])?;
     let wanted = (Status::ReadFault, "", "read fault\n");
     expect_told_at(rt, (line, number as usize), &answer, wanted);
     Ok(())
@@ -66,12 +64,7 @@ fn expect_front<R: Threads + Wait + Sync + Abort + AllocGlobal>(
     text: &str,
     capacity: usize,
 ) -> Result<(), Fail> {
-    let mut source = source(rt.alloc(), input)?;
-    let (out, err) = (
-        sink(rt.alloc(), capacity, &[])?,
-        sink(rt.alloc(), 100, &[])?,
-    );
-    let answer = run_line(rt, line, &mut source, out, err)?;
+    let answer = answer_into(rt, line, input, (capacity, &[]), (100, &[]))?;
     let front = text.get(..capacity).unwrap_or(text);
     let wanted = (Status::WriteFault, front, "write fault\n");
     expect_told_at(rt, (line, capacity), &answer, wanted);
@@ -100,7 +93,7 @@ fn expect_write_faults<R: Threads + Wait + Sync + Abort + AllocGlobal>(
     input: &[u8],
 ) -> Result<(), Fail> {
     let whole = answer_to(rt, line, input)?;
-    expect_told(rt, line, &whole, (Status::Done, text_of(&whole.out), ""));
+    expect_told(line, &whole, (Status::Done, text_of(&whole.out), ""))?;
     expect_fronts(rt, line, input, text_of(&whole.out))
 }
 
@@ -128,11 +121,8 @@ fn expect_same<R: Threads + Wait + Sync + Abort + AllocGlobal>(
     line: &str,
 ) -> Result<(), Fail> {
     let whole = answer_to(rt, line, ORDER_B.as_bytes())?;
-    let mut order = slow_source(rt.alloc(), ORDER_B.as_bytes(), &[])?;
-    let (out, err) = (sink(rt.alloc(), 60_000, &[])?, sink(rt.alloc(), 300, &[])?);
-    let slow = run_line(rt, line, &mut order, out, err)?;
-    expect_told(rt, line, &slow, whole.told());
-    Ok(())
+    let slow = slow_answer_to(rt, line, ORDER_B.as_bytes(), &[])?;
+    expect_told(line, &slow, whole.told())
 }
 
 #[test]
@@ -161,13 +151,10 @@ fn expect_first_days<R: Threads + Wait + Sync + Abort + AllocGlobal>(
     line: &str,
     order: &[u8],
 ) -> Result<(), Fail> {
-    let mut order = source(rt.alloc(), order)?;
-    let out = sink(rt.alloc(), 2000, &[FIRST_DAYS.len() as u32 + 1])?;
-    let err = sink(rt.alloc(), 200, &[])?;
-    let answer = run_line(rt, line, &mut order, out, err)?;
+    let failing = FIRST_DAYS.len() as u32 + 1;
+    let answer = answer_into(rt, line, order, (2000, &[failing]), (200, &[]))?;
     let wanted = (Status::WriteFault, FIRST_DAYS, "write fault\n");
-    expect_told(rt, line, &answer, wanted);
-    Ok(())
+    expect_told(line, &answer, wanted)
 }
 
 #[test]
@@ -192,10 +179,9 @@ fn table_into<R: Threads + Wait + Sync + AllocGlobal>(
 fn a_sink_that_failed_once_is_used_again(rt: HostRuntime) -> Result<(), Fail> {
     let first = table_into(&rt, sink(rt.alloc(), 2000, &[1])?)?;
     let wanted = (Status::WriteFault, "", "write fault\n");
-    expect_told(&rt, "first", &first, wanted);
+    expect_told("first", &first, wanted)?;
     let second = table_into(&rt, first.out)?;
-    expect_told(&rt, "second", &second, (Status::Done, TABLE_B, ""));
-    Ok(())
+    expect_told("second", &second, (Status::Done, TABLE_B, ""))
 }
 
 /// The first call of the error stream fails: the status is the same, and nothing is reported.
@@ -205,11 +191,8 @@ fn expect_status<R: Threads + Wait + Sync + Abort + AllocGlobal>(
     input: &str,
     status: Status,
 ) -> Result<(), Fail> {
-    let mut source = source(rt.alloc(), input.as_bytes())?;
-    let (out, err) = (sink(rt.alloc(), 0, &[])?, sink(rt.alloc(), 200, &[1])?);
-    let answer = run_line(rt, line, &mut source, out, err)?;
-    expect_told(rt, line, &answer, (status, "", ""));
-    Ok(())
+    let answer = answer_into(rt, line, input.as_bytes(), (0, &[]), (200, &[1]))?;
+    expect_told(line, &answer, (status, "", ""))
 }
 
 #[test]
