@@ -43,9 +43,65 @@ pub fn latitude_direction(p: Place) -> Direction
 }
 
 /// The sine and the cosine of the sidereal times over the box at the minutes `m`, whose sun is `s`.
-pub fn sidereal_direction(s: &Sun, m: Minutes, p: Place) -> Direction
+pub(crate) fn sidereal_direction(s: &Sun, m: Minutes, p: Place) -> Direction
     ensures sine { ends result.sine ≡ grid_sine (grid_sidereal_time (terms_of s.now) (minutes_of m) (box_of p)) }
     ensures cosine { ends result.cosine ≡ grid_cosine (grid_sidereal_time (terms_of s.now) (minutes_of m) (box_of p)) }
 {
     direction_of(sidereal_time(s, m, p))
+}
+
+// A range of angles with its direction.
+#[derive(Clone, Copy)]
+struct Known {
+    angle: Angle,
+    direction: Direction,
+    ghost sine_is: { ends direction.sine ≡ grid_sine (range_of angle) },
+    ghost cosine_is: { ends direction.cosine ≡ grid_cosine (range_of angle) },
+}
+
+/// The direction of the angles that were asked for last, which isn't made anew for the same angles.
+#[derive(Clone, Copy)]
+pub struct KeptDirection {
+    last: Option<Known>,
+}
+
+impl KeptDirection {
+    /// One that keeps nothing yet.
+    pub fn new() -> KeptDirection {
+        KeptDirection { last: None }
+    }
+
+    fn of(&mut self, a: Angle) -> Direction
+        requires { (a.hi -ℤ a.lo) ≤ℤ pos 51840000000000 }
+        ensures sine { ends result.sine ≡ grid_sine (range_of a) }
+        ensures cosine { ends result.cosine ≡ grid_cosine (range_of a) }
+    {
+        if let Some(known) = &self.last {
+            if known.angle == a {
+                return known.direction;
+            }
+        }
+        let direction = direction_of(a);
+        self.last = Some(Known {
+            angle: a,
+            direction,
+        });
+        direction
+    }
+
+    /// What `latitude_direction` gives.
+    pub fn latitude(&mut self, p: Place) -> Direction
+        ensures sine { ends result.sine ≡ grid_sine (grid_latitude (box_of p)) }
+        ensures cosine { ends result.cosine ≡ grid_cosine (grid_latitude (box_of p)) }
+    {
+        self.of(latitude(p))
+    }
+
+    /// What `sidereal_direction` gives.
+    pub fn sidereal_time(&mut self, s: &Sun, m: Minutes, p: Place) -> Direction
+        ensures sine { ends result.sine ≡ grid_sine (grid_sidereal_time (terms_of s.now) (minutes_of m) (box_of p)) }
+        ensures cosine { ends result.cosine ≡ grid_cosine (grid_sidereal_time (terms_of s.now) (minutes_of m) (box_of p)) }
+    {
+        self.of(sidereal_time(s, m, p))
+    }
 }

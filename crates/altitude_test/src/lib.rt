@@ -10,7 +10,7 @@ pub mod laws;
 mod products;
 mod values;
 
-pub use directions::{Direction, latitude_direction, sidereal_direction};
+pub use directions::{Direction, KeptDirection, latitude_direction};
 pub use values::{
     altitude_sine, altitude_sine_at, altitude_sine_by, altitude_value, meridian_value,
     meridian_value_by,

@@ -3,7 +3,7 @@ use Rattle.std.specs.Prelude.{◌≡◌, Bool, true, false, if◌then◌else◌,
 use Rattle.std.proofs.lemmas.Bool.{false≢true}
 use Rattle.fixed_interval.specs.Grid.{Range}
 use Rattle.solar_terms.specs.Sun.{SunTerms}
-use Rattle.chosen_sun.specs.Suns.{grid_sun_of}
+use Rattle.meeus_terms.specs.Suns.{grid_sun_of}
 use Rattle.method_table.specs.Row.{Row}
 use Rattle.plane_edges.specs.declared.points.Point.{Point}
 use Rattle.plane_edges.specs.Plane.{Place}

@@ -1,6 +1,5 @@
 -- What the quarters of a cell share, and the value that it makes.
-use Rattle.std.proofs.Common.{◌≡◌, [], ◌∷◌, Option, refl, sym, ap, ◌∙◌, subst}
-use Rattle.std.specs.Prelude.{ℤ, IfSome}
+use Rattle.std.proofs.Common.{◌≡◌, [], ◌∷◌, refl, sym, ◌∙◌, subst}
 use Rattle.std.specs.List.{AllByRecursion as Every}
 use Rattle.fixed_interval.specs.Grid.{Ends, Range}
 use Rattle.fixed_interval.specs.Interval.{ends}
@@ -14,38 +13,16 @@ use Rattle.method_table.specs.declared.problem.Kind.TheVariants.{Above, Below, P
 use Rattle.cell_split.specs.declared.cell.Cell.{Cell}
 use Rattle.cell_split.specs.Cells.{IsCellOf}
 use Rattle.cell_split.specs.Laws.{IsChildOf}
-use Rattle.cell_split.specs.Split.{children_of, quarter}
+use Rattle.cell_split.specs.Split.{children_of}
 use Rattle.cell_split.proofs.Every.{Every-weaker}
 use Rattle.cell_split.proofs.LeafLemmas.{children_are}
-use Rattle.cell_judge.specs.Shared.{IsDirectionOf, value_by}
-use Rattle.cell_judge.specs.Skies.{grid_value, places_at}
+use Rattle.cell_judge.specs.Shared.{value_by}
+use Rattle.cell_judge.specs.Skies.{grid_value}
 
 -- quarters are cells of the root
 pub are_cells : (root cell a b c d : Cell) → IsCellOf root cell → a ∷ b ∷ c ∷ d ∷ [] ≡ children_of cell → Every (IsCellOf root) (a ∷ b ∷ c ∷ d ∷ [])
 are_cells root cell a b c d is same =
     subst (Every (IsCellOf root)) (sym same) (Every-weaker (IsChildOf root cell) (IsCellOf root) (children_of cell) (λ e h. h.is_cell) (children_are root cell is))
-
--- two quarters beside each other have the same latitudes
-row_latitude : (cell : Cell) (x x' y : ℤ) → grid_latitude (places_at (quarter cell x y)) ≡ grid_latitude (places_at (quarter cell x' y))
-unfolding grid_latitude
-row_latitude cell x x' y = refl
-
-pub latitude_beside : (cell a b : Cell) (x x' y : ℤ) (made : Option Direction) → a ≡ quarter cell x y → b ≡ quarter cell x' y
-    → IfSome made (IsDirectionOf (grid_latitude (places_at a))) → IfSome made (IsDirectionOf (grid_latitude (places_at b)))
-latitude_beside cell a b x x' y made is is' h =
-    let of = λ (c : Cell). grid_latitude (places_at c) in
-    subst (λ (r : Range). IfSome made (IsDirectionOf r)) (ap of is ∙ (row_latitude cell x x' y ∙ sym (ap of is'))) h
-
--- and two above each other the same sidereal times
-column_time : (t : SunTerms) (m : Range) (cell : Cell) (x y y' : ℤ) → grid_sidereal_time t m (places_at (quarter cell x y)) ≡ grid_sidereal_time t m (places_at (quarter cell x y'))
-unfolding grid_sidereal_time
-column_time t m cell x y y' = refl
-
-pub sidereal_time_above : (t : SunTerms) (m : Range) (cell a b : Cell) (x y y' : ℤ) (made : Option Direction) → a ≡ quarter cell x y → b ≡ quarter cell x y'
-    → IfSome made (IsDirectionOf (grid_sidereal_time t m (places_at a))) → IfSome made (IsDirectionOf (grid_sidereal_time t m (places_at b)))
-sidereal_time_above t m cell a b x y y' made is is' h =
-    let of = λ (c : Cell). grid_sidereal_time t m (places_at c) in
-    subst (λ (r : Range). IfSome made (IsDirectionOf r)) (ap of is ∙ (column_time t m cell x y y' ∙ sym (ap of is'))) h
 
 -- the value of each kind by the latitudes and the sidereal times of a box
 by_kind : (grid : Range → SunTerms) (kind : Kind) (m : Range) (b : Box)
@@ -57,13 +34,15 @@ by_kind grid Past m b = refl
 by_kind grid (Shadow factor) m b = refl
 
 pub value_is : (grid : Range → SunTerms) (kind : Kind) (t : SunTerms) (m : Range) (b : Box) (phi theta : Direction) (e : Ends) → t ≡ grid m
-    → IsDirectionOf (grid_latitude b) phi → IsDirectionOf (grid_sidereal_time t m b) theta
+    → ends phi.sine ≡ grid_sine (grid_latitude b) → ends phi.cosine ≡ grid_cosine (grid_latitude b)
+    → ends theta.sine ≡ grid_sine (grid_sidereal_time t m b) → ends theta.cosine ≡ grid_cosine (grid_sidereal_time t m b)
     → e ≡ value_by t kind (ends phi.sine) (ends phi.cosine) (ends theta.sine) (ends theta.cosine) → e ≡ grid_value grid kind m b
-value_is grid kind t m b phi theta e same latitude time is =
-    is ∙ rw (latitude.sine, latitude.cosine, time.sine, time.cosine, same) (by_kind grid kind m b)
+value_is grid kind t m b phi theta e same sin_φ cos_φ sin_θ cos_θ is =
+    is ∙ rw (sin_φ, cos_φ, sin_θ, cos_θ, same) (by_kind grid kind m b)
 
 -- the meridian value asks for no latitude
 pub meridian_is : (grid : Range → SunTerms) (kind : Kind) (t : SunTerms) (m : Range) (b : Box) (theta : Direction) (e : Ends) → t ≡ grid m → kind ≡ Past
-    → IsDirectionOf (grid_sidereal_time t m b) theta → e ≡ meridian_by t (ends theta.sine) (ends theta.cosine) → e ≡ grid_value grid kind m b
+    → ends theta.sine ≡ grid_sine (grid_sidereal_time t m b) → ends theta.cosine ≡ grid_cosine (grid_sidereal_time t m b)
+    → e ≡ meridian_by t (ends theta.sine) (ends theta.cosine) → e ≡ grid_value grid kind m b
 unfolding grid_value grid_meridian_value
-meridian_is grid kind t m b theta e same past time is = is ∙ rw (time.sine, time.cosine, same, past) refl
+meridian_is grid kind t m b theta e same past sin_θ cos_θ is = is ∙ rw (sin_θ, cos_θ, same, past) refl

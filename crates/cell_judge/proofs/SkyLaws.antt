@@ -9,8 +9,8 @@ use Rattle.fixed_interval.specs.Enclosure.{Enclosure}
 use Rattle.fixed_interval.specs.Grid.{Ends, Range}
 use Rattle.solar_terms.specs.Sun.{SunTerms}
 use Rattle.solar_terms.specs.SunLaws.{SunSource}
-use Rattle.chosen_sun.specs.Suns.{IsSun, exact_sun_of, grid_sun_of}
-use Rattle.chosen_sun.proofs.SunLaws.{suns_are_sound}
+use Rattle.meeus_terms.specs.Suns.{IsSun, exact_sun_of, grid_sun_of}
+use Rattle.meeus_terms.proofs.SunLaws.{suns_are_sound}
 use Rattle.altitude_test.specs.Conditions.{IsAbove, IsBelow, IsWithin}
 use Rattle.altitude_test.specs.Tolerance.{IsNarrowRange, IsSmallest, ShowsNear}
 use Rattle.altitude_test.specs.Verdicts.{ShowsSide}

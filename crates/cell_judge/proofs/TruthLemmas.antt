@@ -9,7 +9,7 @@ use Rattle.fixed_interval.proofs.Inclusion.{range_ordered}
 use Rattle.fixed_interval.proofs.EnclosureLaws.{LiesIn_refl}
 use Rattle.solar_terms.specs.Sun.{SunTerms}
 use Rattle.solar_terms.specs.SunLaws.{SunSource}
-use Rattle.chosen_sun.specs.Suns.{IsSun}
+use Rattle.meeus_terms.specs.Suns.{IsSun}
 use Rattle.altitude_test.specs.Conditions.{Spot}
 use Rattle.altitude_test.specs.Tolerance.{IsNarrowRange, IsSmallest, ShowsNear}
 use Rattle.altitude_test.specs.Values.{Box}

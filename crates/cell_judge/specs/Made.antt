@@ -1,6 +1,6 @@
 -- What a sky is made of.
 use Rattle.std.specs.Prelude.{◌≡◌, List}
-use Rattle.sun_choice.specs.declared.choice.SunChoice.{SunChoice}
+use Rattle.method_table.specs.declared.sun.SunChoice.{SunChoice}
 use Rattle.method_table.specs.declared.problem.Problem.{Problem}
 use Rattle.ring_survey.specs.Polygons.{Polygon}
 use Rattle.cell_split.specs.declared.cell.Cell.{Cell}

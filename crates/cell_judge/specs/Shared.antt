@@ -1,20 +1,12 @@
 -- The value of a cell by what quarters of one cell share: the sun, and the sine and the cosine of latitudes and of sidereal times.
-use Rattle.std.specs.Prelude.{◌≡◌}
-use Rattle.fixed_interval.specs.Grid.{Ends, Range, grid_sum}
-use Rattle.fixed_interval.specs.Interval.{ends}
-use Rattle.trig_series.specs.Sine.{grid_sine, grid_cosine}
+use Rattle.fixed_interval.specs.Grid.{Ends, grid_sum}
+use Rattle.trig_series.specs.Sine.{grid_sine}
 use Rattle.solar_terms.specs.Sun.{SunTerms}
-use Rattle.altitude_test.specs.declared.directions.Direction.{Direction}
 use Rattle.altitude_test.specs.Values.{altitude_by, meridian_by}
 use Rattle.asr_test.specs.Asr.{asr_at_latitude}
 use Rattle.method_table.specs.declared.problem.Kind.{Kind}
 use Rattle.method_table.specs.declared.problem.Kind.TheVariants.{Above, Below, Past, Shadow}
 use Rattle.cell_judge.specs.Conditions.{angles}
-
--- the sine and the cosine of a range of angles
-pub record IsDirectionOf (r : Range) (d : Direction) : Type 0 where
-  pub sine : ends d.sine ≡ grid_sine r
-  pub cosine : ends d.cosine ≡ grid_cosine r
 
 -- the value of a kind by the latitude φ and the sidereal time θ
 unfoldable pub value_by : SunTerms → Kind → Ends → Ends → Ends → Ends → Ends

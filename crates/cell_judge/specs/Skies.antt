@@ -3,8 +3,8 @@
 use Rattle.std.specs.Prelude.{ℕ, ℤ, pos, int_lt, Bool, if◌then◌else◌, List, length, slice_index_or, Option, Some, None}
 use Rattle.fixed_interval.specs.Grid.{Ends, Range}
 use Rattle.solar_terms.specs.Sun.{SunTerms}
-use Rattle.sun_choice.specs.declared.choice.SunChoice.{SunChoice}
-use Rattle.chosen_sun.specs.Suns.{grid_sun_of}
+use Rattle.method_table.specs.declared.sun.SunChoice.{SunChoice}
+use Rattle.meeus_terms.specs.Suns.{grid_sun_of}
 use Rattle.altitude_test.specs.Values.{Box, grid_altitude_value, grid_meridian_value}
 use Rattle.asr_test.specs.Asr.{grid_asr_value}
 use Rattle.method_table.specs.declared.problem.Column.TheVariants.{Dhuhr}

@@ -3,8 +3,8 @@ use Rattle.std.specs.Prelude.{◌≡◌, ℕ, ◌<◌, pos, ◌+ℤ◌, List, le
 use Rattle.fixed_interval.specs.Grid.{Range}
 use Rattle.solar_terms.specs.Sun.{SunTerms}
 use Rattle.solar_terms.specs.SunLaws.{SunSource}
-use Rattle.sun_choice.specs.declared.choice.SunChoice.{SunChoice}
-use Rattle.chosen_sun.specs.Suns.{IsSun, exact_sun_of}
+use Rattle.method_table.specs.declared.sun.SunChoice.{SunChoice}
+use Rattle.meeus_terms.specs.Suns.{IsSun, exact_sun_of}
 use Rattle.method_table.specs.declared.problem.Problem.{Problem}
 use Rattle.method_table.specs.Kind.{IsKind}
 use Rattle.method_table.specs.Row.{Row, row_of}

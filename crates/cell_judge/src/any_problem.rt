@@ -1,6 +1,6 @@
 // The judgement of a cell for any problem, whichever day the sky is turned to.
 ghost use Rattle.std.specs.Prelude.{◌≡◌};
-ghost use Rattle.chosen_sun.specs.Suns.{grid_sun_of};
+ghost use Rattle.meeus_terms.specs.Suns.{grid_sun_of};
 ghost use Rattle.method_table.specs.Row.{row_of};
 ghost use Rattle.cell_split.specs.Cells.{IsCellOf};
 ghost use Rattle.cell_judge.specs.Limits.{IsInLimits};

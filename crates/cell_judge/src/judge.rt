@@ -1,7 +1,7 @@
 // What a sky is made of, and how it judges.
 ghost use Rattle.std.specs.Prelude.{◌≡◌, ◌<◌, IfOk, Some, slice_get};
-ghost use Rattle.chosen_sun.specs.Suns.{grid_sun_of};
-ghost use Rattle.sun_choice.specs.declared.choice.SunChoice.TheVariants.{Usno};
+ghost use Rattle.meeus_terms.specs.Suns.{grid_sun_of};
+ghost use Rattle.method_table.specs.declared.sun.SunChoice.TheVariants.{Usno};
 ghost use Rattle.method_table.specs.Row.{row_of};
 ghost use Rattle.ring_survey.specs.Extent.{latitudes, least, longitudes};
 ghost use Rattle.cell_split.specs.Cells.{IsCell, IsRoot, root_at};
@@ -10,6 +10,7 @@ ghost use Rattle.cell_judge.specs.Made.{IsSkyOf};
 ghost use Rattle.cell_judge.specs.Sines.{IsSineOf};
 ghost use Rattle.cell_judge.specs.Skies.{verdict_with};
 
+use crate::kept::KeptSky;
 use crate::sines::sines_of;
 use crate::sky::Sky;
 use crate::tiles::large_places;
@@ -17,11 +18,10 @@ use crate::values::{minutes_at, places_at, value};
 use crate::verdicts::verdict_at;
 use cell_split::{Cell, Judge, Judged, Task, Verdict, rect_of, root_at};
 use fixed_interval::Interval;
-use method_table::Problem;
+use method_table::{Problem, SunChoice};
 use no_memory::NoMemory;
 use region::{District, Point};
 use std::alloc::Global;
-use sun_choice::SunChoice;
 
 /// The root at the least longitude and the least latitude of a district.
 pub fn root_over(district: &District) -> Cell
@@ -133,6 +133,8 @@ impl Judge for Sky {
 
     ghost lawful = { λ sky. sky.lawful };
 
+    type Kept = KeptSky;
+
     fn problems(&self) -> u32 {
         7
     }
@@ -146,8 +148,8 @@ impl Judge for Sky {
         self.judge_for(&self.problems[k], self.sines[k], &t.cell)
     }
 
-    fn judge_quarters(&self, t: Task) -> [Judged; 4] {
+    fn judge_quarters(&self, t: Task, kept: &mut KeptSky) -> [Judged; 4] {
         let k = t.problem as usize;
-        self.judge_quarters_for(&self.problems[k], self.sines[k], &t.cell)
+        self.judge_quarters_for(&self.problems[k], self.sines[k], &t.cell, kept)
     }
 }

@@ -4,7 +4,9 @@
 
 mod any_problem;
 mod judge;
+mod kept;
 pub mod laws;
+mod meeus;
 mod named;
 mod quarters;
 mod sines;
@@ -14,5 +16,7 @@ mod values;
 mod verdicts;
 
 pub use judge::root_over;
+pub use kept::KeptSky;
+pub use meeus::MeeusSky;
 pub use sines::sines_of;
 pub use sky::Sky;

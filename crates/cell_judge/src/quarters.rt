@@ -1,28 +1,25 @@
 // The judgement of the four quarters of a cell, which share the sun, two latitudes and two ranges of sidereal times.
-ghost use Rattle.std.specs.Prelude.{◌≡◌, ◌∷◌, [], map, ◌+ℤ◌, IfSome};
+ghost use Rattle.std.specs.Prelude.{◌≡◌, ◌∷◌, [], map, ◌+ℤ◌};
 ghost use Rattle.fixed_interval.specs.Grid.{Range};
 ghost use Rattle.fixed_interval.specs.Interval.{ends};
 ghost use Rattle.solar_terms.specs.Sun.{SunTerms, minutes_of, terms_of};
-ghost use Rattle.chosen_sun.specs.Suns.{grid_sun_of};
-ghost use Rattle.altitude_test.specs.Values.{grid_latitude, grid_sidereal_time};
+ghost use Rattle.meeus_terms.specs.Suns.{grid_sun_of};
 ghost use Rattle.method_table.specs.Kind.{IsKind};
 ghost use Rattle.method_table.specs.Row.{row_of};
 ghost use Rattle.cell_split.specs.Cells.{IsCell, IsCellOf};
 ghost use Rattle.cell_split.specs.Split.{children_of, half, quarter, split};
 ghost use Rattle.cell_judge.specs.Limits.{IsInLimits};
-ghost use Rattle.cell_judge.specs.Shared.{IsDirectionOf, value_by};
+ghost use Rattle.cell_judge.specs.Shared.{value_by};
 ghost use Rattle.cell_judge.specs.Sines.{IsSineOf};
 ghost use Rattle.cell_judge.specs.Skies.{grid_value, minutes_at, places_at, verdict_at, verdict_on};
 
+use crate::kept::KeptSky;
 use crate::sky::Sky;
 use crate::values::{minutes_at, places_at};
 use crate::verdicts::{holds_above, verdict_at};
-use altitude_test::{
-    Direction, altitude_sine_by, latitude_direction, meridian_value_by, sidereal_direction,
-};
+use altitude_test::{Direction, KeptDirection, altitude_sine_by, meridian_value_by};
 use asr_test::asr_value_by;
 use cell_split::{Cell, Judged, Verdict, children};
-use chosen_sun::chosen_sun;
 use fixed_interval::Interval;
 use method_table::{Kind, Problem};
 use region::Point;
@@ -63,36 +60,6 @@ struct Scene {
     sun: Sun,
 }
 
-// The latitudes of a cell, made once for the quarters beside each other.
-fn latitude_of(made: &mut Option<Direction>, cell: &Cell) -> Direction
-    requires cell { IsCell cell.now }
-    requires made { IfSome made.old (IsDirectionOf (grid_latitude (places_at cell.now))) }
-    ensures value { IsDirectionOf (grid_latitude (places_at cell.now)) result }
-    ensures made { IfSome made.new (IsDirectionOf (grid_latitude (places_at cell.now))) }
-{
-    if let Some(direction) = *made {
-        return direction;
-    }
-    let direction = latitude_direction(places_at(cell));
-    *made = Some(direction);
-    direction
-}
-
-// The sidereal times over a cell, made once for the quarters above each other.
-fn sidereal_time_of(made: &mut Option<Direction>, scene: &Scene, cell: &Cell) -> Direction
-    requires cell { IsCell cell.now }
-    requires made { IfSome made.old (IsDirectionOf (grid_sidereal_time (terms_of scene.now.sun) (minutes_of scene.now.minutes) (places_at cell.now))) }
-    ensures value { IsDirectionOf (grid_sidereal_time (terms_of scene.now.sun) (minutes_of scene.now.minutes) (places_at cell.now)) result }
-    ensures made { IfSome made.new (IsDirectionOf (grid_sidereal_time (terms_of scene.now.sun) (minutes_of scene.now.minutes) (places_at cell.now))) }
-{
-    if let Some(direction) = *made {
-        return direction;
-    }
-    let direction = sidereal_direction(&scene.sun, scene.minutes, places_at(cell));
-    *made = Some(direction);
-    direction
-}
-
 // The value of a kind by the latitudes `phi` and the sidereal times `theta`, with the sine of its angles.
 #[tactic(auto, unfolding(crate::specs::Shared::value_by))]
 fn value_by(kind: Kind, sun: &Sun, phi: Direction, theta: Direction, sine: Interval) -> Interval
@@ -114,23 +81,20 @@ fn value_by(kind: Kind, sun: &Sun, phi: Direction, theta: Direction, sine: Inter
 fn value_over(
     kind: Kind,
     scene: &Scene,
-    phi: &mut Option<Direction>,
-    theta: &mut Option<Direction>,
+    phi: &mut KeptDirection,
+    theta: &mut KeptDirection,
     cell: &Cell,
 ) -> Interval
     requires kind { IsKind kind }
     requires sine { IsSineOf kind scene.now.sine }
     requires cell { IsCell cell.now }
-    requires latitude { IfSome phi.old (IsDirectionOf (grid_latitude (places_at cell.now))) }
-    requires sidereal_time { IfSome theta.old (IsDirectionOf (grid_sidereal_time (terms_of scene.now.sun) (minutes_of scene.now.minutes) (places_at cell.now))) }
-    ensures value { (grid : Range → SunTerms) → terms_of scene.now.sun ≡ grid (minutes_of scene.now.minutes) → ends result ≡ grid_value grid kind (minutes_of scene.now.minutes) (places_at cell.now) }
-    ensures latitude { IfSome phi.new (IsDirectionOf (grid_latitude (places_at cell.now))) }
-    ensures sidereal_time { IfSome theta.new (IsDirectionOf (grid_sidereal_time (terms_of scene.now.sun) (minutes_of scene.now.minutes) (places_at cell.now))) }
+    ensures { (grid : Range → SunTerms) → terms_of scene.now.sun ≡ grid (minutes_of scene.now.minutes) → ends result ≡ grid_value grid kind (minutes_of scene.now.minutes) (places_at cell.now) }
 {
-    let turned = sidereal_time_of(theta, scene, cell);
+    let places = places_at(cell);
+    let turned = theta.sidereal_time(&scene.sun, scene.minutes, places);
     match kind {
         Kind::Past => meridian_value_by(&scene.sun, turned),
-        _ => value_by(kind, &scene.sun, latitude_of(phi, cell), turned, scene.sine),
+        _ => value_by(kind, &scene.sun, phi.latitude(places), turned, scene.sine),
     }
 }
 
@@ -152,24 +116,20 @@ fn judged(kind: Kind, value: Interval, cell: &Cell, p: Point) -> Judged
 }
 
 impl Sky {
-    // The verdict on a quarter, by the latitudes and the sidereal times that the quarters before it made.
+    // The verdict on a quarter, by the latitudes and the sidereal times that are kept where they are its own.
     fn judge_quarter(
         &self,
         problem: &Problem,
         scene: &Scene,
-        phi: &mut Option<Direction>,
-        theta: &mut Option<Direction>,
+        phi: &mut KeptDirection,
+        theta: &mut KeptDirection,
         cell: &Cell,
     ) -> Judged
         requires sine { IsSineOf problem.now.kind scene.now.sine }
         requires minutes { minutes_of scene.now.minutes ≡ minutes_at (row_of problem.now) cell.now }
         requires sun { terms_of scene.now.sun ≡ grid_sun_of self.now.sun (minutes_of scene.now.minutes) }
         requires cell { IsCellOf self.now.root cell.now }
-        requires latitude { IfSome phi.old (IsDirectionOf (grid_latitude (places_at cell.now))) }
-        requires sidereal_time { IfSome theta.old (IsDirectionOf (grid_sidereal_time (terms_of scene.now.sun) (minutes_of scene.now.minutes) (places_at cell.now))) }
-        ensures verdict { result.verdict ≡ verdict_on (grid_sun_of self.now.sun) (row_of problem.now) self.now.district cell.now }
-        ensures latitude { IfSome phi.new (IsDirectionOf (grid_latitude (places_at cell.now))) }
-        ensures sidereal_time { IfSome theta.new (IsDirectionOf (grid_sidereal_time (terms_of scene.now.sun) (minutes_of scene.now.minutes) (places_at cell.now))) }
+        ensures { result.verdict ≡ verdict_on (grid_sun_of self.now.sun) (row_of problem.now) self.now.district cell.now }
     {
         match self.named(cell) {
             Some(p) => judged(
@@ -186,8 +146,15 @@ impl Sky {
     }
 
     /// The verdicts on the four quarters of a cell, in tree order, under the same conditions as
-    /// `judge_for`. The sun is asked once, and each latitude and each longitude at most once.
-    pub fn judge_quarters_for(&self, problem: &Problem, sine: Interval, cell: &Cell) -> [Judged; 4]
+    /// `judge_for`. The sun is asked once, and each latitude and each longitude at most once; none that was
+    /// asked last for a cell of this size is computed anew.
+    pub fn judge_quarters_for(
+        &self,
+        problem: &Problem,
+        sine: Interval,
+        cell: &Cell,
+        kept: &mut KeptSky,
+    ) -> [Judged; 4]
         requires sine { IsSineOf problem.now.kind sine }
         requires cell { IsCellOf self.now.root cell.now }
         requires quartered { (split cell.now).count ≡ 4 }
@@ -196,15 +163,38 @@ impl Sky {
     {
         let quarters = quarters_of(cell);
         let minutes = minutes_at(problem, cell);
-        let sun = chosen_sun(self.sun, minutes);
+        let sun = kept.sun.sun(self.sun, minutes);
         let scene = Scene { sine, minutes, sun };
-        let (mut south, mut north) = (None, None);
-        let (mut west, mut east) = (None, None);
+        let at = &mut kept.sizes[cell.size as usize];
         [
-            self.judge_quarter(problem, &scene, &mut south, &mut west, &quarters.south_west),
-            self.judge_quarter(problem, &scene, &mut south, &mut east, &quarters.south_east),
-            self.judge_quarter(problem, &scene, &mut north, &mut west, &quarters.north_west),
-            self.judge_quarter(problem, &scene, &mut north, &mut east, &quarters.north_east),
+            self.judge_quarter(
+                problem,
+                &scene,
+                &mut at.south,
+                &mut at.west,
+                &quarters.south_west,
+            ),
+            self.judge_quarter(
+                problem,
+                &scene,
+                &mut at.south,
+                &mut at.east,
+                &quarters.south_east,
+            ),
+            self.judge_quarter(
+                problem,
+                &scene,
+                &mut at.north,
+                &mut at.west,
+                &quarters.north_west,
+            ),
+            self.judge_quarter(
+                problem,
+                &scene,
+                &mut at.north,
+                &mut at.east,
+                &quarters.north_east,
+            ),
         ]
     }
 }

@@ -12,9 +12,8 @@ ghost use Rattle.cell_judge.specs.Tiles.{AreTables};
 use crate::tiles::Tables;
 use cell_split::Cell;
 use fixed_interval::Interval;
-use method_table::Problem;
+use method_table::{Problem, SunChoice};
 use region::{District, Strips};
-use sun_choice::SunChoice;
 
 /// A district under the sky of one day: the judge of the cells of a root over it, for each problem of
 /// that day.

@@ -2,7 +2,7 @@
 ghost use Rattle.std.specs.Prelude.{◌≡◌, ◌≤◌};
 ghost use Rattle.fixed_interval.specs.Interval.{ends};
 ghost use Rattle.solar_terms.specs.Sun.{minutes_of};
-ghost use Rattle.chosen_sun.specs.Suns.{grid_sun_of};
+ghost use Rattle.meeus_terms.specs.Suns.{grid_sun_of};
 ghost use Rattle.altitude_test.specs.Values.{box_of};
 ghost use Rattle.method_table.specs.Kind.{IsKind};
 ghost use Rattle.method_table.specs.Row.{row_of, time_of};
@@ -14,11 +14,10 @@ ghost use Rattle.cell_judge.specs.Skies.{grid_value, minutes_at, places_at};
 use altitude_test::{Place, altitude_sine, meridian_value};
 use asr_test::asr_value;
 use cell_split::{Cell, rect_of};
-use chosen_sun::chosen_sun;
 use fixed_interval::Interval;
-use method_table::{Kind, Problem, Side, minute_of};
+use meeus_terms::chosen_sun;
+use method_table::{Kind, Problem, Side, SunChoice, minute_of};
 use solar_terms::Minutes;
-use sun_choice::SunChoice;
 
 // The minute of a rank, since 2000-01-01 12:00 Universal Time.
 fn time_of(problem: &Problem, rank: u32) -> i64

@@ -33,6 +33,9 @@ impl Judged {
 pub trait Judge {
     ghost content: { Self → Content };
 
+    /// What is kept from one call for quarters to the next. No verdict depends on it.
+    type Kept: Default + Drop;
+
     fn problems(&self) -> u32
         ensures { result ≡ (content self.now).problems };
 
@@ -45,8 +48,8 @@ pub trait Judge {
         ensures { result ≡ (content self.now).verdict t };
 
     /// The verdicts of the four children of a task whose cell is quartered, in tree order. A judge that can
-    /// share work among the four says so here.
-    fn judge_quarters(&self, t: Task) -> [Judged; 4]
+    /// share work among the four, or with the calls before, says so here.
+    fn judge_quarters(&self, t: Task, _: &mut Self::Kept) -> [Judged; 4]
         requires task { IsTask (content self.now) t }
         requires quartered { (split t.cell).count ≡ 4 }
         ensures { map (λ q. q.verdict) result ≡ map (content self.now).verdict (child_tasks t) }

@@ -36,7 +36,7 @@ use Rattle.order_table.proofs.DayLemmas.{root_is_root}
 use Rattle.order_table.proofs.RightLemmas.{one_each}
 use Rattle.year_table.specs.Dates.{date_text}
 use Rattle.year_table.specs.Rules.{is_rule_byte}
-use Rattle.sun_choice.specs.declared.choice.SunChoice.{SunChoice}
+use Rattle.method_table.specs.declared.sun.SunChoice.{SunChoice}
 use Rattle.order_covering.specs.Covering.{column_line, day_lines, letters_name, letters_text, line_of, night_content, night_lines, sun_line}
 use Rattle.order_covering.specs.Made.{settled_line}
 use Rattle.order_covering.specs.declared.form.Form.{Form}

@@ -12,8 +12,8 @@ use Rattle.method_table.specs.declared.method.Method.TheVariants.{Egypt, Isna, J
 use Rattle.night_rule.specs.declared.rule.NightRule.{NightRule}
 use Rattle.night_rule.specs.declared.rule.NightRule.TheVariants.{ByAngle, Half, Seventh}
 use Rattle.plane_edges.proofs.Truth.{and_left, and_right, and_true}
-use Rattle.sun_choice.specs.declared.choice.SunChoice.{SunChoice}
-use Rattle.sun_choice.specs.declared.choice.SunChoice.TheVariants.{Meeus, Usno}
+use Rattle.method_table.specs.declared.sun.SunChoice.{SunChoice}
+use Rattle.method_table.specs.declared.sun.SunChoice.TheVariants.{Meeus, Usno}
 use Rattle.command_input.specs.Lines.{behind_line, first_line}
 use Rattle.covering_laws.specs.Feeds.{has_no_feed, is_no_feed}
 use Rattle.covering_laws.proofs.Texts.{HasNoFeed, no_feed-append}

@@ -96,7 +96,7 @@ fn check_claim<J: Judge>(
         cell: judge.root(),
     };
     let refuted = claim.rank();
-    let open = match walk(judge, root, refuted, letters, None) {
+    let open = match walk(judge, root, &mut J::Kept::default(), refuted, letters, None) {
         Ok(open) => open,
         Err(fault) => return Err(fault),
     };

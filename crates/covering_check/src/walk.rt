@@ -21,6 +21,7 @@ use plain_search::{is_cut, quarters_of};
 pub(crate) fn walk<J: Judge>(
     judge: &J,
     task: Task,
+    kept: &mut J::Kept,
     refuted: Option<u32>,
     letters: &mut Letters<'_>,
     known: Option<Leaf>,
@@ -31,7 +32,15 @@ pub(crate) fn walk<J: Judge>(
     ensures in_frame { IfOk result IsInFrame }
 {
     if !is_cut(&task.cell, refuted) {
-        return walk_judged(judge, task, judge.judge(task), refuted, letters, known);
+        return walk_judged(
+            judge,
+            task,
+            judge.judge(task),
+            kept,
+            refuted,
+            letters,
+            known,
+        );
     }
     let mark = match letters.next() {
         Ok(mark) => mark,
@@ -50,6 +59,7 @@ fn walk_judged<J: Judge>(
     judge: &J,
     task: Task,
     verdict: Verdict,
+    kept: &mut J::Kept,
     refuted: Option<u32>,
     letters: &mut Letters<'_>,
     known: Option<Leaf>,
@@ -73,12 +83,13 @@ fn walk_judged<J: Judge>(
     }
     let below = children(&task.cell);
     if below.count == 4 {
-        walk_quarters(judge, task, refuted, letters, known)
+        walk_quarters(judge, task, kept, refuted, letters, known)
     } else {
         walk_halves(
             judge,
             task,
             &below.cells[..below.count as usize],
+            kept,
             refuted,
             letters,
             known,
@@ -93,6 +104,7 @@ fn walk_judged<J: Judge>(
 fn walk_quarters<J: Judge>(
     judge: &J,
     task: Task,
+    kept: &mut J::Kept,
     refuted: Option<u32>,
     letters: &mut Letters<'_>,
     known: Option<Leaf>,
@@ -105,12 +117,12 @@ fn walk_quarters<J: Judge>(
     ensures in_frame { IfOk result IsInFrame }
 {
     let mut found = known;
-    for quarter in &quarters_of(judge, task) {
+    for quarter in &quarters_of(judge, task, kept) {
         let child = Task {
             problem: task.problem,
             cell: quarter.cell,
         };
-        found = match walk_judged(judge, child, quarter.verdict, refuted, letters, found) {
+        found = match walk_judged(judge, child, quarter.verdict, kept, refuted, letters, found) {
             Ok(found) => found,
             Err(fault) => return Err(fault),
         };
@@ -125,6 +137,7 @@ fn walk_halves<J: Judge>(
     judge: &J,
     task: Task,
     halves: &[Cell],
+    kept: &mut J::Kept,
     refuted: Option<u32>,
     letters: &mut Letters<'_>,
     known: Option<Leaf>,
@@ -141,7 +154,7 @@ fn walk_halves<J: Judge>(
             problem: task.problem,
             cell: *cell,
         };
-        found = match walk(judge, child, refuted, letters, found) {
+        found = match walk(judge, child, kept, refuted, letters, found) {
             Ok(found) => found,
             Err(fault) => return Err(fault),
         };

@@ -4,8 +4,8 @@ use Rattle.std.specs.List.{AllByRecursion as Every}
 use Rattle.std.proofs.lemmas.List.{get_or-append_right, get_or-map, get_or_append_left, length-map}
 use Rattle.std.proofs.lemmas.List.Elements.{recursion_from_All}
 use Rattle.std.proofs.lemmas.Simd.{map-map}
-use Rattle.sun_choice.specs.declared.choice.SunChoice.{SunChoice}
-use Rattle.chosen_sun.specs.Suns.{grid_sun_of}
+use Rattle.method_table.specs.declared.sun.SunChoice.{SunChoice}
+use Rattle.meeus_terms.specs.Suns.{grid_sun_of}
 use Rattle.method_table.specs.declared.problem.Problem.{Problem}
 use Rattle.method_table.specs.Row.{Row, row_of}
 use Rattle.ring_survey.specs.Polygons.{Polygon}

@@ -1,6 +1,6 @@
 -- The judge of several days over one district.
 use Rattle.std.specs.Prelude.{◌≡◌, ℕ, ◌+◌, ◌*◌, ◌<◌, List, length, map, flat_map, slice_index_or, All}
-use Rattle.sun_choice.specs.declared.choice.SunChoice.{SunChoice}
+use Rattle.method_table.specs.declared.sun.SunChoice.{SunChoice}
 use Rattle.method_table.specs.Row.{Row, row_of}
 use Rattle.ring_survey.specs.Polygons.{Polygon}
 use Rattle.cell_split.specs.declared.cell.Cell.{Cell}

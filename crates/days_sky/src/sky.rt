@@ -2,7 +2,7 @@
 ghost use Rattle.std.specs.Prelude.{◌≡◌, ◌*◌, ◌<◌, ◌^◌, length};
 
 use crate::day::Day;
-use cell_judge::Sky;
+use cell_judge::{KeptSky, Sky};
 use cell_split::{Cell, Judge, Judged, Task, Verdict};
 
 /// The district of a sky under several days, over the sky's root and under its sun: problem `7 * i + k`
@@ -33,6 +33,8 @@ impl Judge for DaysSky<'_> {
 
     ghost lawful = { λ j. skies_are_lawful j.sky.now.sun j.sky.now.district (all_rows (map rows_of_day j.days.now)) j.sky.now.root j.sky.now.lawful.root };
 
+    type Kept = KeptSky;
+
     fn problems(&self) -> u32 {
         7 * self.days.len() as u32
     }
@@ -47,10 +49,10 @@ impl Judge for DaysSky<'_> {
         self.sky.judge_for(&day.problems[k], day.sines[k], &t.cell)
     }
 
-    fn judge_quarters(&self, t: Task) -> [Judged; 4] {
+    fn judge_quarters(&self, t: Task, kept: &mut KeptSky) -> [Judged; 4] {
         let day = &self.days[(t.problem / 7) as usize];
         let k = (t.problem % 7) as usize;
         self.sky
-            .judge_quarters_for(&day.problems[k], day.sines[k], &t.cell)
+            .judge_quarters_for(&day.problems[k], day.sines[k], &t.cell, kept)
     }
 }

@@ -11,7 +11,7 @@ use Rattle.cell_split.specs.declared.verdict.Entry.TheVariants.{Minute, Never, O
 use Rattle.method_table.specs.declared.problem.Problem.{Problem}
 use Rattle.method_table.specs.Row.{row_of}
 use Rattle.ring_survey.specs.Polygons.{Polygon}
-use Rattle.sun_choice.specs.declared.choice.SunChoice.{SunChoice}
+use Rattle.method_table.specs.declared.sun.SunChoice.{SunChoice}
 use Rattle.order_table.specs.Made.{searched}
 use Rattle.order_table.specs.Table.{DayTable, day_undecided, entries_in, is_undecided}
 use Rattle.order_table.specs.declared.day.Day.{Day}

@@ -7,7 +7,7 @@ use Rattle.method_table.specs.declared.method.Method.{Method}
 use Rattle.method_table.specs.declared.method.Method.TheVariants.{Egypt, Isna, Jafari, Karachi, Makkah, Mwl, Tehran}
 use Rattle.order_rule.specs.Asked.{Asked}
 use Rattle.ring_survey.specs.Polygons.{Position, Ring}
-use Rattle.sun_choice.specs.declared.choice.SunChoice.TheVariants.{Usno}
+use Rattle.method_table.specs.declared.sun.SunChoice.TheVariants.{Usno}
 use Rattle.year_table.specs.declared.zone.Zone.TheVariants.{Fixed}
 use Rattle.demo_summary.specs.Numbers.{drawn}
 

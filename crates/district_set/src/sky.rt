@@ -34,6 +34,8 @@ impl<J: Judge> Judge for SetSky<'_, J> {
 
     ghost lawful = { λ s. s.lawful };
 
+    type Kept = J::Kept;
+
     fn problems(&self) -> u32 {
         7 * self.skies.len() as u32
     }
@@ -49,10 +51,11 @@ impl<J: Judge> Judge for SetSky<'_, J> {
         })
     }
 
-    fn judge_quarters(&self, t: Task) -> [Judged; 4] {
-        self.skies[(t.problem / 7) as usize].judge_quarters(Task {
+    fn judge_quarters(&self, t: Task, kept: &mut J::Kept) -> [Judged; 4] {
+        let task = Task {
             problem: t.problem % 7,
             cell: t.cell,
-        })
+        };
+        self.skies[(t.problem / 7) as usize].judge_quarters(task, kept)
     }
 }

@@ -29,6 +29,8 @@ impl<J: Judge> Judge for Counting<'_, J> {
 
     ghost lawful = { λ c. J.lawful c.judge.now };
 
+    type Kept = J::Kept;
+
     fn problems(&self) -> u32 {
         self.judge.problems()
     }
@@ -42,8 +44,8 @@ impl<J: Judge> Judge for Counting<'_, J> {
         self.judge.judge(t)
     }
 
-    fn judge_quarters(&self, t: Task) -> [Judged; 4] {
+    fn judge_quarters(&self, t: Task, kept: &mut J::Kept) -> [Judged; 4] {
         self.judged.fetch_add(4, Ordering::SeqCst);
-        self.judge.judge_quarters(t)
+        self.judge.judge_quarters(t, kept)
     }
 }

@@ -6,3 +6,4 @@ pub mod Terms
 pub mod MeeusLaws
 pub mod MeeusWidths
 pub mod TopLemmas
+pub mod SunLaws

@@ -1,7 +1,9 @@
-// The sun of Meeus over a range of minutes: what the prayer conditions need of its place in the sky.
-// Contract: `meeus_sun(m)` is the grid form of Meeus's formulas over the minutes of m.
+// The sun of Meeus over a range of minutes, what the prayer conditions need of its place in the sky, and the sun that is chosen.
+// Contract: `meeus_sun(m)` is the grid form of Meeus's formulas over the minutes of m, `chosen_sun` that of the choice, and each sun is sound.
 #![tactic(auto)]
 
+mod chosen;
+mod kept;
 pub mod laws;
 mod lines;
 mod polynomials;
@@ -9,4 +11,6 @@ mod ranges;
 mod scaled;
 mod sun;
 
+pub use chosen::chosen_sun;
+pub use kept::KeptSun;
 pub use sun::meeus_sun;

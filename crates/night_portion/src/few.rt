@@ -34,6 +34,8 @@ impl<J: Judge> Judge for Few<'_, J> {
 
     ghost lawful = { λ f. f.lawful };
 
+    type Kept = J::Kept;
+
     fn problems(&self) -> u32 {
         self.count
     }
@@ -46,7 +48,7 @@ impl<J: Judge> Judge for Few<'_, J> {
         self.judge.judge(t)
     }
 
-    fn judge_quarters(&self, t: Task) -> [Judged; 4] {
-        self.judge.judge_quarters(t)
+    fn judge_quarters(&self, t: Task, kept: &mut J::Kept) -> [Judged; 4] {
+        self.judge.judge_quarters(t, kept)
     }
 }

@@ -22,7 +22,7 @@ use Rattle.order_table.specs.declared.ready.Ready.{Ready}
 use Rattle.order_table.proofs.TableLemmas.{ready_is}
 use Rattle.order_table.proofs.TextLemmas.{entries_of_zip}
 use Rattle.ring_survey.specs.Polygons.{Polygon}
-use Rattle.sun_choice.specs.declared.choice.SunChoice.{SunChoice}
+use Rattle.method_table.specs.declared.sun.SunChoice.{SunChoice}
 use Rattle.worker_table.specs.Entries.{entries_on}
 use Rattle.order_calendar.specs.Calendar.{calendar_of, found_on, sheet_of}
 use Rattle.order_calendar.specs.Pieces.{day_text, days_text, entry_text, event_in, found_text}

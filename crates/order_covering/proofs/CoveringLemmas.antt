@@ -29,7 +29,7 @@ use Rattle.plane_edges.specs.declared.points.Point.{Point}
 use Rattle.ring_survey.specs.Polygons.{Polygon}
 use Rattle.serde_json.specs.Written.{compact_text}
 use Rattle.year_table.specs.Dates.{date_text}
-use Rattle.sun_choice.specs.declared.choice.SunChoice.{SunChoice}
+use Rattle.method_table.specs.declared.sun.SunChoice.{SunChoice}
 use Rattle.order_covering.proofs.Pieces.{sum_map, sum_parts}
 use Rattle.order_covering.specs.Covering.{covering_of, day_lines, letters_name, letters_text, line_of, night_lines, sun_word, tree_letters}
 use Rattle.order_covering.specs.Made.{IsDayIn, IsSettledNight, columns_written, content_of_night, counted_at, night_written, settled_line, settled_night, undecided_in, written, written_at}

@@ -3,8 +3,8 @@ use Rattle.std.proofs.Common.{◌≡◌, ℕ, zero, suc, ◌+◌, ◌*◌, ◌<�
 use Rattle.std.specs.Prelude.{IfOk, ◌==◌, ◌&&◌}
 use Rattle.std.specs.List.{flat_map}
 use Rattle.std.specs.Option.{option_and_then, option_to_list}
-use Rattle.chosen_sun.specs.Suns.{grid_sun_of}
-use Rattle.sun_choice.specs.declared.choice.SunChoice.{SunChoice}
+use Rattle.meeus_terms.specs.Suns.{grid_sun_of}
+use Rattle.method_table.specs.declared.sun.SunChoice.{SunChoice}
 use Rattle.night_portion.specs.Few.{first_problems}
 use Rattle.night_portion.specs.Sun.{repeated}
 use Rattle.order_covering.specs.Covering.{night_content}

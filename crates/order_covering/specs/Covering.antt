@@ -20,7 +20,7 @@ use Rattle.plane_edges.specs.declared.points.Point.{Point}
 use Rattle.ring_survey.specs.Polygons.{Polygon}
 use Rattle.serde_json.specs.Written.{compact_text}
 use Rattle.year_table.specs.Dates.{date_text}
-use Rattle.sun_choice.specs.declared.choice.SunChoice.{SunChoice}
+use Rattle.method_table.specs.declared.sun.SunChoice.{SunChoice}
 use Rattle.order_covering.specs.declared.form.Form.{Form}
 use Rattle.order_covering.specs.declared.form.Form.TheVariants.{Letters, Runs}
 

@@ -16,7 +16,7 @@ use Rattle.order_table.specs.declared.day.Night.{Night}
 use Rattle.ring_survey.specs.Polygons.{Polygon}
 use Rattle.serde_json.specs.Written.{compact_text}
 use Rattle.year_table.specs.Dates.{date_text}
-use Rattle.sun_choice.specs.declared.choice.SunChoice.{SunChoice}
+use Rattle.method_table.specs.declared.sun.SunChoice.{SunChoice}
 use Rattle.order_covering.specs.Covering.{day_lines, letters_name, letters_text, line_of, night_content, night_lines, sun_word}
 use Rattle.order_covering.specs.declared.form.Form.{Form}
 use Rattle.order_covering.specs.declared.night.SettledNight.{SettledNight}

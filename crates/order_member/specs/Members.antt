@@ -21,9 +21,9 @@ use Rattle.order_member.specs.declared.fault.Member.{Member}
 use Rattle.order_member.specs.declared.fault.Member.TheVariants.{From, Days, Method as MethodName, Asr as AsrName, Zone as ZoneName, Height, LateIsha, Sun, Night}
 use Rattle.order_member.specs.declared.fault.OrderFault.{OrderFault}
 use Rattle.order_member.specs.declared.fault.OrderFault.TheVariants.{Kind, Range}
-use Rattle.sun_choice.specs.Choice.{sun_of}
+use Rattle.method_table.specs.Sun.{sun_of}
 use Rattle.year_table.specs.Rules.{is_rule}
-use Rattle.sun_choice.specs.declared.choice.SunChoice.{SunChoice}
+use Rattle.method_table.specs.declared.sun.SunChoice.{SunChoice}
 use Rattle.year_table.specs.declared.zone.Zone.{Zone}
 use Rattle.year_table.specs.declared.zone.Zone.TheVariants.{Fixed, Rule}
 

@@ -11,11 +11,10 @@ use crate::date::{day_of, ymd_in};
 use crate::fault::{Member, OrderFault, member_word};
 use exact_json::{Decimal, Json, JsonTable};
 use geo_json::{Found, find_member, list_in, number_in, text_in};
-use method_table::{Asr, Method, asr_word, method_of};
+use method_table::{Asr, Method, SunChoice, asr_word, method_of, sun_of};
 use night_rule::{NightRule, night_rule_of};
 use order_rule::{Offsets, offsets_of};
 use std::alloc::Global;
-use sun_choice::{SunChoice, sun_of};
 use year_table::{RuleFault, Zone, read_rule};
 
 /// The value of a member that must stand once.

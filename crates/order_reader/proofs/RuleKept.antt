@@ -27,7 +27,7 @@ use Rattle.order_rule.specs.Rule.{IsOrder}
 use Rattle.ring_survey.specs.Faults.{first_fault}
 use Rattle.ring_survey.specs.Polygons.{Polygon}
 use Rattle.ring_survey.specs.declared.faults.RegionFault.{RegionFault}
-use Rattle.sun_choice.specs.declared.choice.SunChoice.{SunChoice}
+use Rattle.method_table.specs.declared.sun.SunChoice.{SunChoice}
 use Rattle.year_table.specs.declared.zone.Zone.{Zone}
 
 optional_ok : {A : Type 0} (absent : A) (read : Tree → Result A OrderFault) (P : A → Type 0) → P absent → ((t : Tree) (x : A) → read t ≡ Ok x → P x) → (r : Result (Option Tree) OrderFault) (x : A) → (r >>= or_absent absent read) ≡ Ok x → P x

@@ -18,8 +18,8 @@ use Rattle.order_rule.specs.Asked.{Asked}
 use Rattle.ring_survey.specs.Faults.{first_fault}
 use Rattle.ring_survey.specs.Polygons.{Polygon}
 use Rattle.ring_survey.specs.declared.faults.RegionFault.{RegionFault}
-use Rattle.sun_choice.specs.declared.choice.SunChoice.{SunChoice}
-use Rattle.sun_choice.specs.declared.choice.SunChoice.TheVariants.{Usno}
+use Rattle.method_table.specs.declared.sun.SunChoice.{SunChoice}
+use Rattle.method_table.specs.declared.sun.SunChoice.TheVariants.{Usno}
 use Rattle.year_table.specs.declared.zone.Zone.{Zone}
 
 -- what the value says, or what is taken where there is none

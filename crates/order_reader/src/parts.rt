@@ -2,10 +2,9 @@
 ghost use Rattle.std.specs.Prelude.{◌≡◌, ◌≤◌, ◌≤ℤ◌, ◌+ℤ◌, length, pos, true, Some};
 ghost use Rattle.order_rule.specs.Offsets.{first_day, is_zone, last_day, offsets_of};
 
-use method_table::{Asr, Method};
+use method_table::{Asr, Method, SunChoice};
 use night_rule::NightRule;
 use order_rule::{Offsets, Ranges};
-use sun_choice::SunChoice;
 use year_table::Zone;
 
 /// What every order says of its days, its words and its clock.

@@ -13,7 +13,7 @@ ghost use Rattle.order_reader.specs.Reads.{ReadsOrder, json_refusal};
 use crate::parts::{Basis, Extras};
 use exact_json::{Json, JsonFault, JsonTable, read};
 use geo_json::{GeometryFault, object_in, read_geometry};
-use method_table::Method;
+use method_table::{Method, SunChoice};
 use night_rule::NightRule;
 use order_member::{
     Member, OrderFault, asr_in, days_in, from_in, height_in, late_in, method_in, needed,
@@ -22,7 +22,6 @@ use order_member::{
 use order_rule::{Order, Ranges};
 use region::{District, RegionFault};
 use std::alloc::Global;
-use sun_choice::SunChoice;
 
 /// What every order says.
 #[tactic(auto, unfolding(crate::specs::Reading::basis_of))]

@@ -5,7 +5,7 @@ use Rattle.method_table.specs.declared.method.Method.{Method}
 use Rattle.night_rule.specs.declared.rule.NightRule.{NightRule}
 use Rattle.order_rule.specs.declared.order.Order.{Order}
 use Rattle.ring_survey.specs.Polygons.{Polygon}
-use Rattle.sun_choice.specs.declared.choice.SunChoice.{SunChoice}
+use Rattle.method_table.specs.declared.sun.SunChoice.{SunChoice}
 use Rattle.year_table.specs.declared.zone.Zone.{Zone}
 
 pub record Asked : Type 0 where

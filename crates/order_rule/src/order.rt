@@ -5,10 +5,9 @@ ghost use Rattle.order_rule.specs.Offsets.{first_day, is_zone, last_day, offsets
 
 use crate::offsets::Offsets;
 use crate::ranges::Ranges;
-use method_table::{Asr, Method};
+use method_table::{Asr, Method, SunChoice};
 use night_rule::NightRule;
 use region::District;
-use sun_choice::SunChoice;
 use year_table::Zone;
 
 /// What a table is asked for. Days count from 1970-01-01 and are from 1900-01-01 to 2100-12-31.

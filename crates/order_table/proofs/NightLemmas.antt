@@ -11,7 +11,7 @@ use Rattle.cell_split.proofs.Renumbering.{renumbered_trees}
 use Rattle.cell_judge.proofs.Lawful.{skies_are_lawful}
 use Rattle.cell_judge.specs.RightEntries.{IsRight}
 use Rattle.cell_judge.specs.Skies.{row_at, sky_content, verdict_on}
-use Rattle.chosen_sun.specs.Suns.{exact_sun_of, grid_sun_of}
+use Rattle.meeus_terms.specs.Suns.{exact_sun_of, grid_sun_of}
 use Rattle.method_table.specs.declared.method.Method.{Method}
 use Rattle.method_table.specs.Row.{Row}
 use Rattle.night_portion.specs.Few.{first_problems}
@@ -21,7 +21,7 @@ use Rattle.night_portion.specs.Sun.{repeated}
 use Rattle.night_portion.proofs.SafeLemmas.{nights_are_safe}
 use Rattle.night_rule.specs.declared.rule.NightRule.{NightRule}
 use Rattle.ring_survey.specs.Polygons.{Polygon}
-use Rattle.sun_choice.specs.declared.choice.SunChoice.{SunChoice}
+use Rattle.method_table.specs.declared.sun.SunChoice.{SunChoice}
 use Rattle.order_table.specs.RightTable.{AreRightEntries, IsRightEntry, IsRightNight, scene_of}
 use Rattle.order_table.specs.Table.{night_in}
 use Rattle.order_table.specs.Trees.{entry_at, night_columns, night_entries_of}

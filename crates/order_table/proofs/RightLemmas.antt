@@ -28,8 +28,8 @@ use Rattle.order_rule.specs.Late.{interval_on}
 use Rattle.order_rule.specs.Offsets.{IsOffset, first_day, last_day, offsets_of, days_from as order_days}
 use Rattle.order_rule.specs.Rule.{IsOrder}
 use Rattle.year_table.specs.Zones.{day_offset}
-use Rattle.chosen_sun.proofs.SunLaws.{suns_are_sound}
-use Rattle.sun_choice.specs.declared.choice.SunChoice.{SunChoice}
+use Rattle.meeus_terms.proofs.SunLaws.{suns_are_sound}
+use Rattle.method_table.specs.declared.sun.SunChoice.{SunChoice}
 use Rattle.order_table.specs.Days.{NightRows, day_with, days_from, night_by, night_on, noon_on, rows_on}
 use Rattle.order_table.specs.Laws.{TablesAreRight}
 use Rattle.order_table.specs.RightTable.{AreRightEntries, IsRightDay, IsRightEntry, IsRightNight, scene_of}

@@ -10,7 +10,7 @@ use Rattle.cell_judge.specs.Skies.{sky_content}
 use Rattle.method_table.specs.Row.{Row}
 use Rattle.order_rule.specs.Asked.{Asked}
 use Rattle.ring_survey.specs.Polygons.{Polygon}
-use Rattle.sun_choice.specs.declared.choice.SunChoice.{SunChoice}
+use Rattle.method_table.specs.declared.sun.SunChoice.{SunChoice}
 use Rattle.order_table.specs.Days.{days_of}
 use Rattle.order_table.specs.Made.{day_of, searched}
 use Rattle.order_table.specs.Ready.{IsReady, found_in}

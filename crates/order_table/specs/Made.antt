@@ -4,7 +4,7 @@ use Rattle.cell_split.specs.declared.cell.Cell.{Cell}
 use Rattle.method_table.specs.Row.{Row, row_of}
 use Rattle.order_rule.specs.Asked.{Asked}
 use Rattle.ring_survey.specs.Polygons.{Polygon}
-use Rattle.sun_choice.specs.declared.choice.SunChoice.{SunChoice}
+use Rattle.method_table.specs.declared.sun.SunChoice.{SunChoice}
 use Rattle.order_table.specs.Days.{DayRows, NightRows, day_with}
 use Rattle.order_table.specs.Table.{DayTable}
 use Rattle.order_table.specs.Trees.{tree_day}

@@ -5,12 +5,12 @@ use Rattle.cell_split.specs.declared.cell.Cell.{Cell}
 use Rattle.cell_split.specs.declared.verdict.Entry.{Entry}
 use Rattle.cell_judge.specs.RightEntries.{IsDecided, IsRight}
 use Rattle.cell_judge.specs.Scenes.{Scene}
-use Rattle.chosen_sun.specs.Suns.{exact_sun_of}
+use Rattle.meeus_terms.specs.Suns.{exact_sun_of}
 use Rattle.method_table.specs.Row.{Row}
 use Rattle.night_portion.specs.SafeNights.{IsSafeNight}
 use Rattle.order_rule.specs.Asked.{Asked}
 use Rattle.ring_survey.specs.Polygons.{Polygon}
-use Rattle.sun_choice.specs.declared.choice.SunChoice.{SunChoice}
+use Rattle.method_table.specs.declared.sun.SunChoice.{SunChoice}
 use Rattle.order_table.specs.Days.{days_of}
 use Rattle.order_table.specs.Table.{DayTable, NightTable, night_in, rows_in}
 use Rattle.order_table.specs.Trees.{root_over, table_of_trees}

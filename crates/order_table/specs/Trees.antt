@@ -11,7 +11,7 @@ use Rattle.method_table.specs.Row.{Row}
 use Rattle.order_rule.specs.Asked.{Asked}
 use Rattle.ring_survey.specs.Extent.{latitudes, least, longitudes}
 use Rattle.ring_survey.specs.Polygons.{Polygon}
-use Rattle.sun_choice.specs.declared.choice.SunChoice.{SunChoice}
+use Rattle.method_table.specs.declared.sun.SunChoice.{SunChoice}
 use Rattle.order_table.specs.Days.{DayRows, NightRows, days_of}
 use Rattle.order_table.specs.Table.{DayTable, day_found, days_undecided, table_text}
 

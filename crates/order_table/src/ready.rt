@@ -12,13 +12,12 @@ ghost use Rattle.order_table.specs.Trees.{root_over};
 
 use crate::day::{Day, Night};
 use cell_judge::Sky;
-use method_table::{Problem, noon_of, problems};
+use method_table::{Problem, SunChoice, noon_of, problems};
 use night_portion::night_problems;
 use no_memory::NoMemory;
 use order_rule::Order;
 use region::District;
 use std::alloc::Global;
-use sun_choice::SunChoice;
 use year_table::table_head;
 
 /// The reference noon with this offset of the clock, a local minute.

@@ -30,8 +30,8 @@ use Rattle.order_text.specs.LineReading.{line_district, line_extras_of, line_ord
 use Rattle.plane_edges.proofs.Truth.{le_true}
 use Rattle.ring_survey.specs.Faults.{first_fault}
 use Rattle.ring_survey.specs.Polygons.{Polygon}
-use Rattle.sun_choice.specs.declared.choice.SunChoice.{SunChoice}
-use Rattle.sun_choice.specs.declared.choice.SunChoice.TheVariants.{Usno, Meeus}
+use Rattle.method_table.specs.declared.sun.SunChoice.{SunChoice}
+use Rattle.method_table.specs.declared.sun.SunChoice.TheVariants.{Usno, Meeus}
 
 -- Districts.
 

@@ -23,7 +23,7 @@ use Rattle.order_text.specs.LineLaws.{LinesKeepTheRule}
 use Rattle.order_text.specs.LineReading.{line_district, line_extras_of, line_order_in, line_order_of, since, version_in}
 use Rattle.ring_survey.specs.Faults.{first_fault}
 use Rattle.ring_survey.specs.Polygons.{Polygon}
-use Rattle.sun_choice.specs.declared.choice.SunChoice.TheVariants.{Usno}
+use Rattle.method_table.specs.declared.sun.SunChoice.TheVariants.{Usno}
 
 since_ok : {A : Type 0} (absent : A) (read : Tree → Result A OrderFault) (P : A → Type 0) → P absent → ((t : Tree) (x : A) → read t ≡ Ok x → P x) → (r : Result Tree OrderFault) (stands : Bool) (x : A) → cond stands (r >>= read) (Ok absent) ≡ Ok x → P x
 since_ok absent read P none some r true x e = (let t = gave r read x e in some t.value x t.rest)

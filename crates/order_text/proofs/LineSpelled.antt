@@ -27,9 +27,9 @@ use Rattle.order_text.proofs.SpelledLemmas.{Field, IsField, Spells, entry_of, fi
 use Rattle.order_text.proofs.VersionLemmas.{at_most_four}
 use Rattle.order_text.specs.Line.{body_text, district_text, height_text, is_plain, list_text, more_text, night_text, order_body, polygon_text, position_text, range_text, ring_text, second_text, span_text, sun_text, third_text, version_by, words_by, words_text, zone_text}
 use Rattle.ring_survey.specs.Polygons.{Position, Ring, Polygon}
-use Rattle.sun_choice.specs.Choice.{sun_word}
-use Rattle.sun_choice.specs.declared.choice.SunChoice.{SunChoice}
-use Rattle.sun_choice.specs.declared.choice.SunChoice.TheVariants.{Usno, Meeus}
+use Rattle.method_table.specs.Sun.{sun_word}
+use Rattle.method_table.specs.declared.sun.SunChoice.{SunChoice}
+use Rattle.method_table.specs.declared.sun.SunChoice.TheVariants.{Usno, Meeus}
 use Rattle.year_table.specs.Dates.{date_text}
 use Rattle.year_table.specs.Rules.{is_rule_byte}
 use Rattle.year_table.specs.declared.zone.Zone.{Zone}

@@ -10,9 +10,9 @@ use Rattle.order_text.specs.Line.{district_text, is_plain, list_text, range_text
 use Rattle.order_text.proofs.NumberLemmas.{whole_decimal}
 use Rattle.order_text.proofs.SpelledLemmas.{Field, entry_of, quoted}
 use Rattle.ring_survey.specs.Polygons.{Position, Ring, Polygon}
-use Rattle.sun_choice.specs.Choice.{sun_word}
-use Rattle.sun_choice.specs.declared.choice.SunChoice.{SunChoice}
-use Rattle.sun_choice.specs.declared.choice.SunChoice.TheVariants.{Usno, Meeus}
+use Rattle.method_table.specs.Sun.{sun_word}
+use Rattle.method_table.specs.declared.sun.SunChoice.{SunChoice}
+use Rattle.method_table.specs.declared.sun.SunChoice.TheVariants.{Usno, Meeus}
 use Rattle.year_table.specs.Dates.{date_text}
 use Rattle.year_table.specs.declared.zone.Zone.{Zone}
 use Rattle.year_table.specs.declared.zone.Zone.TheVariants.{Fixed, Rule}

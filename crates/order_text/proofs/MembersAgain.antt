@@ -26,9 +26,9 @@ use Rattle.order_text.proofs.LineTree.{date_tree, number_tree, range_tree, zone_
 use Rattle.order_text.proofs.NumberLemmas.{whole_decimal, whole_of_decimal}
 use Rattle.order_text.specs.LineReading.{version_in}
 use Rattle.plane_edges.proofs.Truth.{le_true}
-use Rattle.sun_choice.specs.Choice.{sun_word}
-use Rattle.sun_choice.specs.declared.choice.SunChoice.{SunChoice}
-use Rattle.sun_choice.specs.declared.choice.SunChoice.TheVariants.{Usno, Meeus}
+use Rattle.method_table.specs.Sun.{sun_word}
+use Rattle.method_table.specs.declared.sun.SunChoice.{SunChoice}
+use Rattle.method_table.specs.declared.sun.SunChoice.TheVariants.{Usno, Meeus}
 use Rattle.year_table.specs.Dates.{day_of_month, month_of}
 use Rattle.year_table.specs.Zones.{day_offset}
 use Rattle.year_table.specs.declared.zone.Zone.{Zone}

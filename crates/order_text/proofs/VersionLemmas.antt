@@ -23,8 +23,8 @@ use Rattle.order_text.specs.Line.{is_plain, version_by, version_of}
 use Rattle.order_text.specs.LineLaws.{VersionsAreLeast}
 use Rattle.order_text.specs.LineReading.{line_district, line_extras_of, line_order_in, line_order_of, since, version_in}
 use Rattle.ring_survey.specs.Polygons.{Polygon}
-use Rattle.sun_choice.specs.declared.choice.SunChoice.{SunChoice}
-use Rattle.sun_choice.specs.declared.choice.SunChoice.TheVariants.{Usno, Meeus}
+use Rattle.method_table.specs.declared.sun.SunChoice.{SunChoice}
+use Rattle.method_table.specs.declared.sun.SunChoice.TheVariants.{Usno, Meeus}
 
 ok_same : {A : Type 0} (a b : A) → ◌≡◌ {A = Result A OrderFault} (Ok a) (Ok b) → a ≡ b
 ok_same a b h = cc

@@ -17,7 +17,7 @@ use Rattle.order_member.specs.declared.fault.OrderFault.{OrderFault}
 use Rattle.order_member.specs.declared.fault.OrderFault.TheVariants.{Kind, Range, Geometry}
 use Rattle.order_rule.specs.Asked.{Asked}
 use Rattle.ring_survey.specs.Polygons.{Polygon}
-use Rattle.sun_choice.specs.declared.choice.SunChoice.TheVariants.{Usno}
+use Rattle.method_table.specs.declared.sun.SunChoice.TheVariants.{Usno}
 
 -- 1 to 4
 unfoldable pub version_in : Tree → Result ℕ OrderFault

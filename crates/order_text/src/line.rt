@@ -8,13 +8,12 @@ ghost use Rattle.order_rule.specs.Late.{is_range};
 ghost use Rattle.order_rule.specs.Offsets.{first_day, last_day};
 ghost use Rattle.order_text.specs.Line.{is_plain, version_of, version_text, days_text, span_text, height_text, sun_text, night_text, second_text, third_text, extras_by, zone_text, words_by, words_text, range_text, items_text, list_text, comma_before, position_text, ring_text, polygon_text, district_text, order_line};
 
-use method_table::{Asr, Method, asr_word, method_word};
+use method_table::{Asr, Method, SunChoice, asr_word, method_word, sun_word};
 use night_rule::{NightRule, night_word};
 use no_memory::NoMemory;
 use order_rule::Order;
 use region::District;
 use std::alloc::Global;
-use sun_choice::{SunChoice, sun_word};
 use year_table::{Zone, date_text};
 
 /// The canonical line of an order, with its LF: the order's one text, which `read_order_line` reads

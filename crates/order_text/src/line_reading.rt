@@ -8,11 +8,11 @@ ghost use Rattle.order_member.specs.declared.fault.Member.TheVariants as members
 ghost use Rattle.order_rule.specs.Asked.{asked_of};
 ghost use Rattle.order_rule.specs.Late.{may_be_late};
 ghost use Rattle.order_text.specs.LineReading.{ReadsLine, line_district, line_extras_of, line_order_in, line_order_of, since, version_in};
-ghost use Rattle.sun_choice.specs.declared.choice.SunChoice.TheVariants.{Usno};
+ghost use Rattle.method_table.specs.declared.sun.SunChoice.TheVariants.{Usno};
 
 use exact_json::{Json, JsonTable, read};
 use geo_json::{GeometryFault, list_in, number_in, object_in, read_line_district};
-use method_table::Method;
+use method_table::{Method, SunChoice};
 use night_rule::NightRule;
 use order_reader::pieces::{
     Extras, basis_of, district_of, height_in, json_refusal, late_in, needed, order_with, rule_in,
@@ -22,7 +22,6 @@ use order_reader::{Member, OrderFault};
 use order_rule::{Order, Ranges};
 use region::District;
 use std::alloc::Global;
-use sun_choice::SunChoice;
 
 // the version of a line, 1 to 4
 #[tactic(auto, unfolding(crate::specs::LineReading::version_in))]

@@ -20,11 +20,18 @@ pub fn search_plain<J: Judge>(alloc: Global, judge: &J) -> Result<Harvest, NoMem
     ensures { IfOk result (λ h. IsHarvest (J.content judge.now) h.refuted h.leaves) }
 {
     let cell = judge.root();
+    let mut kept = J::Kept::default();
     let mut ranks = Vec::new(alloc);
     let mut leaves = Vec::new(alloc);
     for problem in 0..judge.problems() {
         let mut refuted = None;
-        visit(judge, Task { problem, cell }, &mut refuted, &mut leaves)?;
+        visit(
+            judge,
+            Task { problem, cell },
+            &mut kept,
+            &mut refuted,
+            &mut leaves,
+        )?;
         ranks.push(refuted)?;
     }
     Ok(Harvest {
@@ -38,6 +45,7 @@ pub fn search_plain<J: Judge>(alloc: Global, judge: &J) -> Result<Harvest, NoMem
 fn visit<J: Judge>(
     judge: &J,
     task: Task,
+    kept: &mut J::Kept,
     refuted: &mut Option<u32>,
     found: &mut Vec<Leaf>,
 ) -> Result<(), NoMemory>
@@ -48,7 +56,7 @@ fn visit<J: Judge>(
     if is_cut(&task.cell, *refuted) {
         return Ok(());
     }
-    visit_judged(judge, task, judge.judge(task), refuted, found)
+    visit_judged(judge, task, judge.judge(task), kept, refuted, found)
 }
 
 // The same for a task whose verdict is known.
@@ -57,6 +65,7 @@ fn visit_judged<J: Judge>(
     judge: &J,
     task: Task,
     verdict: Verdict,
+    kept: &mut J::Kept,
     refuted: &mut Option<u32>,
     found: &mut Vec<Leaf>,
 ) -> Result<(), NoMemory>
@@ -73,12 +82,13 @@ fn visit_judged<J: Judge>(
     }
     let below = children(&task.cell);
     if below.count == 4 {
-        visit_quarters(judge, task, refuted, found)
+        visit_quarters(judge, task, kept, refuted, found)
     } else {
         visit_halves(
             judge,
             task,
             &below.cells[..below.count as usize],
+            kept,
             refuted,
             found,
         )
@@ -91,6 +101,7 @@ fn visit_judged<J: Judge>(
 fn visit_quarters<J: Judge>(
     judge: &J,
     task: Task,
+    kept: &mut J::Kept,
     refuted: &mut Option<u32>,
     found: &mut Vec<Leaf>,
 ) -> Result<(), NoMemory>
@@ -100,12 +111,12 @@ fn visit_quarters<J: Judge>(
     ensures { OnOk result (Collects task.problem (leaves (J.content judge.now) task)
         (ordinal_of refuted.old) (ordinal_of refuted.new) found.old.items found.new.items) }
 {
-    for quarter in &quarters_in_turn(judge, task) {
+    for quarter in &quarters_in_turn(judge, task, kept) {
         let child = Task {
             problem: task.problem,
             cell: quarter.cell,
         };
-        visit_judged(judge, child, quarter.verdict, refuted, found)?;
+        visit_judged(judge, child, quarter.verdict, kept, refuted, found)?;
     }
     Ok(())
 }
@@ -116,6 +127,7 @@ fn visit_halves<J: Judge>(
     judge: &J,
     task: Task,
     halves: &[Cell],
+    kept: &mut J::Kept,
     refuted: &mut Option<u32>,
     found: &mut Vec<Leaf>,
 ) -> Result<(), NoMemory>
@@ -130,7 +142,7 @@ fn visit_halves<J: Judge>(
             problem: task.problem,
             cell: *cell,
         };
-        visit(judge, child, refuted, found)?;
+        visit(judge, child, kept, refuted, found)?;
     }
     Ok(())
 }

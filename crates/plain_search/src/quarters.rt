@@ -36,26 +36,26 @@ impl Quarter {
 }
 
 /// The quarters of a task's cell in the order in which they are searched.
-pub fn quarters_in_turn<J: Judge>(judge: &J, task: Task) -> [Quarter; 4]
+pub fn quarters_in_turn<J: Judge>(judge: &J, task: Task, kept: &mut J::Kept) -> [Quarter; 4]
     requires task { IsTask (J.content judge.now) task }
     requires quartered { (split task.cell).count ≡ 4 }
     ensures cells { IsPermutation (children_of task.cell) (cells_of result) }
     ensures verdicts { All (IsJudged (J.content judge.now) task.problem) result }
 {
-    let mut quarters = quarters_of(judge, task);
+    let mut quarters = quarters_of(judge, task, kept);
     quarters.sort_unstable_by_key(|q| q.turn());
     quarters
 }
 
 /// The quarters of a task's cell, judged together, in tree order.
-pub fn quarters_of<J: Judge>(judge: &J, task: Task) -> [Quarter; 4]
+pub fn quarters_of<J: Judge>(judge: &J, task: Task, kept: &mut J::Kept) -> [Quarter; 4]
     requires task { IsTask (J.content judge.now) task }
     requires quartered { (split task.cell).count ≡ 4 }
     ensures cells { cells_of result ≡ children_of task.cell }
     ensures verdicts { All (IsJudged (J.content judge.now) task.problem) result }
 {
     let cells = children(&task.cell).cells;
-    let judged = judge.judge_quarters(task);
+    let judged = judge.judge_quarters(task, kept);
     [
         Quarter::new(cells[0], judged[0]),
         Quarter::new(cells[1], judged[1]),

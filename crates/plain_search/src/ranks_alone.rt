@@ -50,13 +50,13 @@ pub fn top_ranks<J: Judge>(judge: &J, k: u32) -> TopRanks
         refuted: None,
         left_open: None,
     };
-    rise(judge, root, &mut found);
+    rise(judge, root, &mut J::Kept::default(), &mut found);
     TopRanks::of(found.refuted, found.left_open)
 }
 
 // Takes in the tree below a task.
 #[cycle(rises)]
-fn rise<J: Judge>(judge: &J, task: Task, found: &mut TopRanks)
+fn rise<J: Judge>(judge: &J, task: Task, kept: &mut J::Kept, found: &mut TopRanks)
     requires { IsTask (J.content judge.now) task }
     ensures { Rises (leaves (J.content judge.now) task)
         (ordinal_of found.old.refuted) (ordinal_of found.old.left_open) (ordinal_of found.new.refuted) (ordinal_of found.new.left_open) }
@@ -64,12 +64,18 @@ fn rise<J: Judge>(judge: &J, task: Task, found: &mut TopRanks)
     if is_cut(&task.cell, found.refuted) {
         return;
     }
-    rise_judged(judge, task, judge.judge(task), found);
+    rise_judged(judge, task, judge.judge(task), kept, found);
 }
 
 // The same for a task whose verdict is known.
 #[cycle(rises)]
-fn rise_judged<J: Judge>(judge: &J, task: Task, verdict: Verdict, found: &mut TopRanks)
+fn rise_judged<J: Judge>(
+    judge: &J,
+    task: Task,
+    verdict: Verdict,
+    kept: &mut J::Kept,
+    found: &mut TopRanks,
+)
     requires task { IsTask (J.content judge.now) task }
     requires verdict { verdict ≡ (J.content judge.now).verdict task }
     ensures { Rises (leaves (J.content judge.now) task)
@@ -83,33 +89,45 @@ fn rise_judged<J: Judge>(judge: &J, task: Task, verdict: Verdict, found: &mut To
     }
     let below = children(&task.cell);
     if below.count == 4 {
-        rise_quarters(judge, task, found);
+        rise_quarters(judge, task, kept, found);
     } else {
-        rise_halves(judge, task, &below.cells[..below.count as usize], found);
+        rise_halves(
+            judge,
+            task,
+            &below.cells[..below.count as usize],
+            kept,
+            found,
+        );
     }
 }
 
 // Takes in the trees below the quarters of a task in the plain search's order.
 #[cycle(rises)]
-fn rise_quarters<J: Judge>(judge: &J, task: Task, found: &mut TopRanks)
+fn rise_quarters<J: Judge>(judge: &J, task: Task, kept: &mut J::Kept, found: &mut TopRanks)
     requires task { IsTask (J.content judge.now) task }
     requires split { is_split ((J.content judge.now).verdict task) ≡ true }
     requires quartered { (split task.cell).count ≡ 4 }
     ensures { Rises (leaves (J.content judge.now) task)
         (ordinal_of found.old.refuted) (ordinal_of found.old.left_open) (ordinal_of found.new.refuted) (ordinal_of found.new.left_open) }
 {
-    for quarter in &quarters_in_turn(judge, task) {
+    for quarter in &quarters_in_turn(judge, task, kept) {
         let child = Task {
             problem: task.problem,
             cell: quarter.cell,
         };
-        rise_judged(judge, child, quarter.verdict, found);
+        rise_judged(judge, child, quarter.verdict, kept, found);
     }
 }
 
 // Takes in the trees below the halves of a task, the later ranks first.
 #[cycle(rises)]
-fn rise_halves<J: Judge>(judge: &J, task: Task, halves: &[Cell], found: &mut TopRanks)
+fn rise_halves<J: Judge>(
+    judge: &J,
+    task: Task,
+    halves: &[Cell],
+    kept: &mut J::Kept,
+    found: &mut TopRanks,
+)
     requires task { IsTask (J.content judge.now) task }
     requires split { is_split ((J.content judge.now).verdict task) ≡ true }
     requires halves { halves.now ≡ children_of task.cell }
@@ -121,7 +139,7 @@ fn rise_halves<J: Judge>(judge: &J, task: Task, halves: &[Cell], found: &mut Top
             problem: task.problem,
             cell: *cell,
         };
-        rise(judge, child, found);
+        rise(judge, child, kept, found);
     }
 }
 

@@ -108,6 +108,8 @@ struct Nobody;
 impl Judge for Nobody {
     ghost content = { λ _. record { problems = 1; root = root_at (pos 0) (pos 0); verdict = λ _. Outside } };
 
+    type Kept = ();
+
     fn problems(&self) -> u32 {
         1
     }

@@ -34,6 +34,8 @@ impl Threshold {
 impl Judge for Threshold {
     ghost content = { λ j. threshold j.root j.point };
 
+    type Kept = ();
+
     ghost lawful = { λ j. j.lawful };
 
     fn problems(&self) -> u32 {
@@ -82,6 +84,8 @@ impl Late {
 impl Judge for Late {
     ghost content = { λ j. late j.root j.point };
 
+    type Kept = ();
+
     ghost lawful = { λ j. j.lawful };
 
     fn problems(&self) -> u32 {
@@ -126,6 +130,8 @@ impl Steps {
 impl Judge for Steps {
     ghost content = { λ j. steps j.root j.point };
 
+    type Kept = ();
+
     ghost lawful = { λ j. j.lawful };
 
     fn problems(&self) -> u32 {
@@ -155,6 +161,8 @@ pub struct Nobody;
 impl Judge for Nobody {
     ghost content = { λ _. record { problems = 1; root = root_at (pos 0) (pos 0); verdict = λ _. Outside } };
 
+    type Kept = ();
+
     fn problems(&self) -> u32 {
         1
     }
@@ -176,6 +184,8 @@ pub struct Sure;
 
 impl Judge for Sure {
     ghost content = { λ _. record { problems = 1; root = root_at (pos 0) (pos 0); verdict = λ _. Proved } };
+
+    type Kept = ();
 
     fn problems(&self) -> u32 {
         1

@@ -50,6 +50,8 @@ impl<J: Judge> Judge for Counting<'_, J> {
 
     ghost lawful = { λ c. J.lawful c.judge.now };
 
+    type Kept = ();
+
     fn problems(&self) -> u32 {
         self.judge.problems()
     }

@@ -35,7 +35,10 @@ impl<C: Case, S: Store> Member<C, S> {
         ensures same { IsSameMember bound.now self.old self.new }
         ensures owes { self.new.lacks_memory ≡ false → HasInHand C.case (S.keeps C.case.problems) self.old self.new [] }
     {
-        if self.search(rt, judge, bound).is_err() {
+        if self
+            .search(rt, judge, &mut J::Kept::default(), bound)
+            .is_err()
+        {
             self.lacks_memory = true;
             bound.halt(&mut self.worker.seat);
         }
@@ -46,6 +49,7 @@ impl<C: Case, S: Store> Member<C, S> {
         &mut self,
         rt: &R,
         judge: &J,
+        kept: &mut J::Kept,
         bound: &Bound<Refutes<C>>,
     ) -> Result<(), NoMemory>
         requires case { J.content judge.now ≡ C.case }
@@ -55,7 +59,7 @@ impl<C: Case, S: Store> Member<C, S> {
         ensures owes { OnOk result (HasInHand C.case (S.keeps C.case.problems) self.old self.new []) }
     {
         for _ in rt.forever() {
-            self.work_while_it_finds(rt, judge, bound)?;
+            self.work_while_it_finds(rt, judge, kept, bound)?;
             if self.worker.is_over_soon(bound) {
                 return Ok(());
             }
@@ -69,6 +73,7 @@ impl<C: Case, S: Store> Member<C, S> {
         &mut self,
         rt: &R,
         judge: &J,
+        kept: &mut J::Kept,
         bound: &Bound<Refutes<C>>,
     ) -> Result<(), NoMemory>
         requires case { J.content judge.now ≡ C.case }
@@ -78,7 +83,7 @@ impl<C: Case, S: Store> Member<C, S> {
         ensures owes { OnOk result (HasInHand C.case (S.keeps C.case.problems) self.old self.new []) }
     {
         bound.begin(&mut self.worker.seat);
-        self.work_on(rt, judge, bound)?;
+        self.work_on(rt, judge, kept, bound)?;
         bound.finish(&mut self.worker.seat);
         Ok(())
     }
@@ -88,6 +93,7 @@ impl<C: Case, S: Store> Member<C, S> {
         &mut self,
         rt: &R,
         judge: &J,
+        kept: &mut J::Kept,
         bound: &Bound<Refutes<C>>,
     ) -> Result<(), NoMemory>
         requires case { J.content judge.now ≡ C.case }
@@ -98,7 +104,7 @@ impl<C: Case, S: Store> Member<C, S> {
     {
         for _ in rt.forever() {
             match self.find(bound) {
-                Some(job) => self.worker.work(judge, bound, job)?,
+                Some(job) => self.worker.work(judge, kept, bound, job)?,
                 None => return Ok(()),
             }
         }

@@ -1,10 +1,12 @@
 // One task searched: left out, kept as a leaf, or its children handed on.
-ghost use Rattle.std.specs.Prelude.{◌≡◌, true, false, OnOk};
+ghost use Rattle.std.specs.Prelude.{◌≡◌, true, All, OnOk};
 ghost use Rattle.std.specs.List.Sorted.{IsPermutation};
 ghost use Rattle.bound_word.specs.Bounds.{count_of};
+ghost use Rattle.cell_split.specs.Judges.{IsTask};
 ghost use Rattle.cell_split.specs.Split.{children_of, split};
 ghost use Rattle.cell_split.specs.Tree.{InTree};
 ghost use Rattle.cell_split.specs.Verdicts.{is_split};
+ghost use Rattle.plain_search.specs.Quarters.{IsJudged, cells_of};
 ghost use Rattle.search_worker.specs.Workers.{HasDone, IsSameWorker, IsWorkerOf, OwesAsBefore};
 ghost use Rattle.task_deque.specs.Rule.{IsJob, IsSettled, all_parts};
 ghost use Rattle.task_deque.specs.Ends.{owner_log};
@@ -15,9 +17,28 @@ use crate::worker::Worker;
 use bound_word::Bound;
 use cell_split::{Cell, Judge, Leaf, Task, Verdict, children};
 use no_memory::NoMemory;
-use plain_search::quarters_in_turn;
+use plain_search::{Quarter, quarters_in_turn};
 use std::sync::Wait;
 use task_deque::{Case, Job};
+
+// The quarters of a task's cell as they are taken from the last on: reversed, the first in turn comes first.
+fn quarters_from_last<J: Judge>(
+    judge: &J,
+    task: Task,
+    kept: &mut J::Kept,
+    is_reversed: bool,
+) -> [Quarter; 4]
+    requires task { IsTask (J.content judge.now) task }
+    requires quartered { (split task.cell).count ≡ 4 }
+    ensures cells { IsPermutation (children_of task.cell) (cells_of result) }
+    ensures verdicts { All (IsJudged (J.content judge.now) task.problem) result }
+{
+    let mut quarters = quarters_in_turn(judge, task, kept);
+    if is_reversed {
+        quarters.reverse();
+    }
+    quarters
+}
 
 impl<C: Case, S: Store> Worker<C, S> {
     /// Searches a task: what is below it is kept, left out, or stands in the deque then.
@@ -25,6 +46,7 @@ impl<C: Case, S: Store> Worker<C, S> {
     pub fn work<J: Judge>(
         &mut self,
         judge: &J,
+        kept: &mut J::Kept,
         bound: &Bound<Refutes<C>>,
         job: Job,
     ) -> Result<(), NoMemory>
@@ -39,9 +61,9 @@ impl<C: Case, S: Store> Worker<C, S> {
             return Ok(());
         }
         if job.splits {
-            return self.hand_on_children(judge, bound, job.task);
+            return self.hand_on_children(judge, kept, bound, job.task);
         }
-        self.work_judged(judge, bound, job.task, judge.judge(job.task))
+        self.work_judged(judge, kept, bound, job.task, judge.judge(job.task))
     }
 
     // The same for a task whose verdict is known.
@@ -49,6 +71,7 @@ impl<C: Case, S: Store> Worker<C, S> {
     fn work_judged<J: Judge>(
         &mut self,
         judge: &J,
+        kept: &mut J::Kept,
         bound: &Bound<Refutes<C>>,
         task: Task,
         verdict: Verdict,
@@ -62,7 +85,7 @@ impl<C: Case, S: Store> Worker<C, S> {
         ensures owes { OnOk result (HasDone C.case (S.keeps C.case.problems) self.old self.new task) }
     {
         if verdict.splits() {
-            self.hand_on_children(judge, bound, task)
+            self.hand_on_children(judge, kept, bound, task)
         } else {
             self.keep(bound, Leaf { task, verdict })
         }
@@ -73,6 +96,7 @@ impl<C: Case, S: Store> Worker<C, S> {
     fn hand_on_children<J: Judge>(
         &mut self,
         judge: &J,
+        kept: &mut J::Kept,
         bound: &Bound<Refutes<C>>,
         task: Task,
     ) -> Result<(), NoMemory>
@@ -86,17 +110,25 @@ impl<C: Case, S: Store> Worker<C, S> {
     {
         let below = children(&task.cell);
         if below.count == 4 {
-            self.hand_on_quarters(judge, bound, task)
+            self.hand_on_quarters(judge, kept, bound, task)
         } else {
-            self.hand_on_halves(judge, bound, task, &below.cells[..below.count as usize])
+            self.hand_on_halves(
+                judge,
+                kept,
+                bound,
+                task,
+                &below.cells[..below.count as usize],
+            )
         }
     }
 
-    // The last one first, so that the first of them is the next that is taken from this end.
+    // The last one first, so that the first of them is the next that is taken from this end. Quarters of a cell of one
+    // rank are small work: where others have enough to steal, they are searched at once, the first one first.
     #[cycle(works)]
     fn hand_on_quarters<J: Judge>(
         &mut self,
         judge: &J,
+        kept: &mut J::Kept,
         bound: &Bound<Refutes<C>>,
         task: Task,
     ) -> Result<(), NoMemory>
@@ -109,14 +141,22 @@ impl<C: Case, S: Store> Worker<C, S> {
         ensures same { IsSameWorker bound.now self.old self.new }
         ensures owes { OnOk result (HasDone C.case (S.keeps C.case.problems) self.old self.new task) }
     {
-        let quarters = quarters_in_turn(judge, task);
+        let at_once = self.has_enough(bound) && task.cell.first == task.cell.last;
+        let quarters = quarters_from_last(judge, task, kept, at_once);
         for i in (0..quarters.len()).rev() {
             let quarter = quarters[i];
             let child = Task {
                 problem: task.problem,
                 cell: quarter.cell,
             };
-            self.hand_on_quarter(judge, bound, child, quarter.verdict, i == 0)?;
+            self.hand_on_quarter(
+                judge,
+                kept,
+                bound,
+                child,
+                quarter.verdict,
+                at_once || i == 0,
+            )?;
         }
         Ok(())
     }
@@ -126,10 +166,11 @@ impl<C: Case, S: Store> Worker<C, S> {
     fn hand_on_quarter<J: Judge>(
         &mut self,
         judge: &J,
+        kept: &mut J::Kept,
         bound: &Bound<Refutes<C>>,
         task: Task,
         verdict: Verdict,
-        is_first: bool,
+        at_once: bool,
     ) -> Result<(), NoMemory>
         requires case { J.content judge.now ≡ C.case }
         requires count { count_of bound.now ≡ C.case.problems }
@@ -140,7 +181,7 @@ impl<C: Case, S: Store> Worker<C, S> {
         ensures owes { OnOk result (HasDone C.case (S.keeps C.case.problems) self.old self.new task) }
     {
         if verdict.splits() {
-            return self.hand_on(judge, bound, Job { task, splits: true }, is_first);
+            return self.hand_on(judge, kept, bound, Job { task, splits: true }, at_once);
         }
         if self.is_spared(bound, &task) {
             return Ok(());
@@ -153,6 +194,7 @@ impl<C: Case, S: Store> Worker<C, S> {
     fn hand_on_halves<J: Judge>(
         &mut self,
         judge: &J,
+        kept: &mut J::Kept,
         bound: &Bound<Refutes<C>>,
         task: Task,
         halves: &[Cell],
@@ -175,20 +217,21 @@ impl<C: Case, S: Store> Worker<C, S> {
                 task: child,
                 splits: false,
             };
-            self.hand_on(judge, bound, job, i == 0)?;
+            self.hand_on(judge, kept, bound, job, i == 0)?;
         }
         Ok(())
     }
 
-    // Puts a task into the deque. The first one, which would be taken from this end next, is searched now
-    // instead, as is one for which the deque can't grow.
+    // Puts a task into the deque, or searches it at once: the first one, which would be taken from this end next, and one
+    // for which the deque can't grow.
     #[cycle(works)]
     fn hand_on<J: Judge>(
         &mut self,
         judge: &J,
+        kept: &mut J::Kept,
         bound: &Bound<Refutes<C>>,
         job: Job,
-        is_first: bool,
+        at_once: bool,
     ) -> Result<(), NoMemory>
         requires case { J.content judge.now ≡ C.case }
         requires count { count_of bound.now ≡ C.case.problems }
@@ -197,12 +240,12 @@ impl<C: Case, S: Store> Worker<C, S> {
         ensures same { IsSameWorker bound.now self.old self.new }
         ensures owes { OnOk result (HasDone C.case (S.keeps C.case.problems) self.old self.new job.task) }
     {
-        if is_first {
-            return self.work(judge, bound, job);
+        if at_once {
+            return self.work(judge, kept, bound, job);
         }
         match self.owner.push(job) {
             Ok(()) => Ok(()),
-            Err(job) => self.work(judge, bound, job),
+            Err(job) => self.work(judge, kept, bound, job),
         }
     }
 
@@ -220,9 +263,10 @@ impl<C: Case, S: Store> Worker<C, S> {
         ensures settled { (owner_log self.old.owner).parts ≡ all_parts → OnOk result (IsSettled (owner_log self.new.owner)) }
         ensures owes { OnOk result (OwesAsBefore C.case (S.keeps C.case.problems) self.old self.new) }
     {
+        let mut kept = J::Kept::default();
         for _ in rt.forever() {
             match self.owner.pop() {
-                Some(job) => self.work(judge, bound, job)?,
+                Some(job) => self.work(judge, &mut kept, bound, job)?,
                 None => return Ok(()),
             }
         }

@@ -16,6 +16,9 @@ use plain_search::is_cut;
 use std::thread;
 use task_deque::{Case, Owner};
 
+// How many tasks that others can steal are enough.
+const ENOUGH: usize = 4;
+
 // How often an idle worker yields between two times that it looks for a task.
 const RESTS: u32 = 16;
 
@@ -37,6 +40,15 @@ impl<C: Case, S: Store> Worker<C, S> {
         ensures owes { OwesAsBefore C.case (S.keeps C.case.problems) self.old self.new }
     {
         is_cut(&task.cell, bound.read(&mut self.seat, task.problem))
+    }
+
+    // Whether others can steal enough of it.
+    pub(crate) fn has_enough(&mut self, bound: &Bound<Refutes<C>>) -> bool
+        requires worker { IsWorkerOf bound.now self.old }
+        ensures same { IsSameWorker bound.now self.old self.new }
+        ensures owes { OwesAsBefore C.case (S.keeps C.case.problems) self.old self.new }
+    {
+        self.owner.len() >= ENOUGH
     }
 
     // Whether nobody is busy or one has halted all, at one of some looks. Those who look for a task count

@@ -7,7 +7,7 @@ use Rattle.cell_judge.specs.declared.sky.Sky.{Sky}
 use Rattle.cell_split.specs.declared.cell.Cell.{Cell}
 use Rattle.cell_split.proofs.Every.{Every-weaker}
 use Rattle.ring_survey.specs.Polygons.{Polygon}
-use Rattle.sun_choice.specs.declared.choice.SunChoice.{SunChoice}
+use Rattle.method_table.specs.declared.sun.SunChoice.{SunChoice}
 use Rattle.set_search.specs.Scopes.{HaveOneRoot, Scope, first_root, scope_of, scope_over}
 
 pub one_each : (sun : SunChoice) (root : Cell) (skies : List Sky) (parts : List (List Polygon)) → map scope_of skies ≡ map (scope_over sun root) parts → length skies ≡ length parts

@@ -4,7 +4,7 @@ use Rattle.cell_judge.specs.declared.sky.Sky.{Sky}
 use Rattle.cell_split.specs.declared.cell.Cell.{Cell}
 use Rattle.cell_split.specs.Cells.{root_at}
 use Rattle.ring_survey.specs.Polygons.{Polygon}
-use Rattle.sun_choice.specs.declared.choice.SunChoice.{SunChoice}
+use Rattle.method_table.specs.declared.sun.SunChoice.{SunChoice}
 
 -- a district under a sun, with the root of its cells
 pub record Scope : Type 0 where

@@ -8,12 +8,11 @@ ghost use Rattle.set_search.specs.Scopes.{scope_of, scope_over};
 
 use cell_judge::Sky;
 use cell_split::Cell;
-use method_table::Problem;
+use method_table::{Problem, SunChoice};
 use no_memory::NoMemory;
 use region::District;
 use set_reader::Parts;
 use std::alloc::Global;
-use sun_choice::SunChoice;
 
 /// The root over all districts of a set together.
 pub fn root_of(whole: &District, parts: &Parts) -> Cell

@@ -10,7 +10,7 @@ use Rattle.order_table.specs.Trees.{entries_of, root_over}
 use Rattle.order_table.specs.declared.day.Day.{Day}
 use Rattle.ring_survey.specs.Polygons.{Polygon}
 use Rattle.set_reader.specs.Asked.{SetAsked}
-use Rattle.sun_choice.specs.declared.choice.SunChoice.{SunChoice}
+use Rattle.method_table.specs.declared.sun.SunChoice.{SunChoice}
 use Rattle.set_search.specs.Scopes.{Scope, scope_of, scope_over}
 use Rattle.set_search.specs.Searches.{entries_over}
 use Rattle.set_table.specs.Made.{searched}

@@ -4,8 +4,8 @@ use Rattle.std.specs.Prelude.{ℤ, pos, ◌+ℤ◌, ◌≤ℤ◌, None, Option, 
 use Rattle.std.specs.List.{AllByRecursion as Every}
 use Rattle.std.proofs.lemmas.Int.{ints}
 use Rattle.std.proofs.lemmas.List.Elements.{All-from_recursion, recursion_from_All}
-use Rattle.chosen_sun.specs.Suns.{exact_sun_of}
-use Rattle.chosen_sun.proofs.SunLaws.{suns_are_sound}
+use Rattle.meeus_terms.specs.Suns.{exact_sun_of}
+use Rattle.meeus_terms.proofs.SunLaws.{suns_are_sound}
 use Rattle.method_table.specs.Row.{Row}
 use Rattle.ring_survey.specs.Faults.{first_fault}
 use Rattle.ring_survey.specs.Polygons.{Polygon}
@@ -36,7 +36,7 @@ use Rattle.set_reader.specs.Asked.{SetAsked, asked_of}
 use Rattle.set_reader.specs.Features.{polygons_of}
 use Rattle.set_reader.specs.Rule.{IsSet}
 use Rattle.set_reader.specs.declared.set.SetOrder.{SetOrder}
-use Rattle.sun_choice.specs.declared.choice.SunChoice.{SunChoice}
+use Rattle.method_table.specs.declared.sun.SunChoice.{SunChoice}
 use Rattle.set_table.specs.Laws.{SetsAreRight}
 use Rattle.set_table.specs.RightSet.{IsRightPart, IsRightSet, IsRightSetDay}
 use Rattle.set_search.specs.Joined.{column_of, joined_of}

@@ -8,7 +8,7 @@ use Rattle.order_table.specs.Table.{DayTable, rows_in}
 use Rattle.order_table.specs.Trees.{root_over}
 use Rattle.ring_survey.specs.Polygons.{Polygon}
 use Rattle.set_reader.specs.Asked.{SetAsked}
-use Rattle.sun_choice.specs.declared.choice.SunChoice.{SunChoice}
+use Rattle.method_table.specs.declared.sun.SunChoice.{SunChoice}
 use Rattle.set_table.specs.Table.{SetDay}
 use Rattle.set_table.specs.Trees.{set_of_trees}
 

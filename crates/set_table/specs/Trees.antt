@@ -7,7 +7,7 @@ use Rattle.order_table.specs.Days.{DayRows, days_of}
 use Rattle.order_table.specs.Trees.{entries_of, root_over}
 use Rattle.ring_survey.specs.Polygons.{Polygon}
 use Rattle.set_reader.specs.Asked.{SetAsked}
-use Rattle.sun_choice.specs.declared.choice.SunChoice.{SunChoice}
+use Rattle.method_table.specs.declared.sun.SunChoice.{SunChoice}
 use Rattle.set_table.specs.Table.{SetDay, set_day, set_days_undecided, set_text}
 
 -- the entries of a day's rows in each district

@@ -29,7 +29,7 @@ use Rattle.order_covering.specs.Covering.{night_content, sun_word}
 use Rattle.order_table.specs.declared.day.Day.{Day}
 use Rattle.order_table.specs.declared.day.Night.{Night}
 use Rattle.year_table.specs.Dates.{date_text}
-use Rattle.sun_choice.specs.declared.choice.SunChoice.{SunChoice}
+use Rattle.method_table.specs.declared.sun.SunChoice.{SunChoice}
 use Rattle.shown_table.specs.declared.bad.BadLine.{BadLine}
 use Rattle.shown_table.specs.declared.bad.Shown.{Shown}
 use Rattle.shown_table.specs.declared.bad.Shown.TheVariants.{Whole}

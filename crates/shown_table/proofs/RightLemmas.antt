@@ -4,7 +4,7 @@ use Rattle.std.specs.Prelude.{◌==◌, IfSome, None, zip}
 use Rattle.std.proofs.lemmas.Bool.Decides.{nat_tests}
 use Rattle.std.proofs.lemmas.List.{length-map}
 use Rattle.std.proofs.lemmas.List.Elements.{All-from_recursion, recursion_from_All}
-use Rattle.chosen_sun.proofs.SunLaws.{suns_are_sound}
+use Rattle.meeus_terms.proofs.SunLaws.{suns_are_sound}
 use Rattle.method_table.specs.Row.{Row, row_of}
 use Rattle.ring_survey.specs.Faults.{first_fault}
 use Rattle.ring_survey.specs.Polygons.{Polygon}
@@ -44,7 +44,7 @@ use Rattle.order_table.specs.Trees.{night_columns}
 use Rattle.order_table.proofs.NightLemmas.{right_night}
 use Rattle.order_table.specs.declared.day.Day.{Day}
 use Rattle.order_table.specs.declared.day.Night.{Night}
-use Rattle.sun_choice.specs.declared.choice.SunChoice.{SunChoice}
+use Rattle.method_table.specs.declared.sun.SunChoice.{SunChoice}
 use Rattle.shown_table.specs.Shown.{columns_shown, day_shown, entries_shown, night_shown, shown_at, sun_shown_at}
 use Rattle.shown_table.proofs.ShowingLemmas.{IsWeekly, each_of_columns, each_of_sun, is_day_shown, is_some_night, seven_shown, shown_count}
 

@@ -16,7 +16,7 @@ use Rattle.order_table.specs.Table.{DayTable, day_found, night_found, night_rows
 use Rattle.order_table.specs.Trees.{columns, night_columns}
 use Rattle.order_table.proofs.TextLemmas.{rows_of_zip}
 use Rattle.ring_survey.specs.Polygons.{Polygon}
-use Rattle.sun_choice.specs.declared.choice.SunChoice.{SunChoice}
+use Rattle.method_table.specs.declared.sun.SunChoice.{SunChoice}
 use Rattle.shown_table.specs.declared.bad.BadLine.{BadLine}
 use Rattle.shown_table.specs.Shown.{Shows, ShowsDay, ShowsNight, columns_shown, columns_then, day_shown, day_then, days_shown, entries_shown, entry_then, lines_by, lines_of, night_shown, shown_at, some_night, sun_shown_at, with_columns, with_days, with_entries}
 

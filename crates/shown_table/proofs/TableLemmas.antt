@@ -20,7 +20,7 @@ use Rattle.order_table.specs.Table.{day_text, day_undecided, days_text, days_und
 use Rattle.order_table.specs.declared.day.Day.{Day}
 use Rattle.order_table.specs.declared.ready.Ready.{Ready}
 use Rattle.year_table.specs.Lines.{end_line}
-use Rattle.sun_choice.specs.declared.choice.SunChoice.{SunChoice}
+use Rattle.method_table.specs.declared.sun.SunChoice.{SunChoice}
 use Rattle.shown_table.specs.declared.bad.BadLine.{BadLine}
 use Rattle.shown_table.specs.declared.bad.Shown.{Shown}
 use Rattle.shown_table.specs.declared.bad.Shown.TheVariants.{Bad, Whole}

@@ -7,7 +7,7 @@ use Rattle.order_table.specs.declared.day.Day.{Day}
 use Rattle.order_table.specs.declared.day.Night.{Night}
 use Rattle.order_table.specs.declared.ready.Ready.{Ready}
 use Rattle.ring_survey.specs.Polygons.{Polygon}
-use Rattle.sun_choice.specs.declared.choice.SunChoice.{SunChoice}
+use Rattle.method_table.specs.declared.sun.SunChoice.{SunChoice}
 use Rattle.shown_table.specs.Shown.{ShownDays, days_shown, lines_of}
 
 -- what the lines from the second one on show of days

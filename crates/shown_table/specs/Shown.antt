@@ -17,7 +17,7 @@ use Rattle.outcome.specs.Answer.{Answer, finished}
 use Rattle.outcome.specs.declared.status.Status.TheVariants.{CoverRefused}
 use Rattle.ring_survey.specs.Polygons.{Polygon}
 use Rattle.year_table.specs.Dates.{date_text}
-use Rattle.sun_choice.specs.declared.choice.SunChoice.{SunChoice}
+use Rattle.method_table.specs.declared.sun.SunChoice.{SunChoice}
 use Rattle.shown_table.specs.declared.bad.BadLine.{BadLine}
 
 -- ---- one day

@@ -6,13 +6,12 @@ use cell_judge::Sky;
 use cell_split::{Cell, Judge, Task, Verdict, root_at, within};
 use district_set::SetSky;
 use meeus_sky::MeeusSky;
-use method_table::{Asr, Method, Problem, problems};
+use method_table::{Asr, Method, Problem, SunChoice, problems};
 use night_portion::{Few, night_problems, repeated};
 use region::{District, RegionFault};
 use std::alloc::{AllocError, Global};
 use std::process::Abort;
 use std::test::Fail;
-use sun_choice::SunChoice;
 
 // 2000-01-01, counted from 1970-01-01.
 const DAY: i32 = 10_957;

@@ -51,6 +51,8 @@ impl<J: Judge, G: Gate> Judge for Gated<'_, J, G> {
 
     ghost lawful = { λ g. J.lawful g.judge.now };
 
+    type Kept = J::Kept;
+
     fn problems(&self) -> u32 {
         self.judge.problems()
     }
@@ -64,10 +66,10 @@ impl<J: Judge, G: Gate> Judge for Gated<'_, J, G> {
         self.judge.judge(t)
     }
 
-    fn judge_quarters(&self, t: Task) -> [Judged; 4] {
+    fn judge_quarters(&self, t: Task, kept: &mut J::Kept) -> [Judged; 4] {
         for _ in 0..4u32 {
             self.pass();
         }
-        self.judge.judge_quarters(t)
+        self.judge.judge_quarters(t, kept)
     }
 }

@@ -3,9 +3,9 @@ use Rattle.std.proofs.Common.{◌≡◌, ℕ, ◌≤◌, Bool, true, false, cond
 use Rattle.std.specs.Prelude.{ℤ, pos, ◌≤ℤ◌, IfSome, ◌==◌, bytes_eq, nat_le, option_map, slice_index}
 use Rattle.std.proofs.lemmas.Bool.{leb-true}
 use Rattle.std.proofs.lemmas.Int.{ints}
-use Rattle.sun_choice.specs.declared.choice.SunChoice.{SunChoice}
-use Rattle.sun_choice.specs.declared.choice.SunChoice.TheVariants.{Usno, Meeus}
-use Rattle.sun_choice.specs.Choice.{sun_word}
+use Rattle.method_table.specs.declared.sun.SunChoice.{SunChoice}
+use Rattle.method_table.specs.declared.sun.SunChoice.TheVariants.{Usno, Meeus}
+use Rattle.method_table.specs.Sun.{sun_word}
 use Rattle.digit_text.specs.Digits.{digits_in}
 use Rattle.digit_text.specs.Sign.{is_negative, with_sign, without_sign}
 use Rattle.sun_verdict.specs.Decimals.{at_most, millionths_in}

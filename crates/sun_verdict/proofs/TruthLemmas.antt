@@ -8,8 +8,8 @@ use Rattle.fixed_interval.specs.Enclosure.{point as exact_point}
 use Rattle.fixed_interval.specs.Grid.{Ends, enclosure_of_range}
 use Rattle.fixed_interval.proofs.FractionLaws.{≤ᶠ_refl}
 use Rattle.fixed_interval.proofs.EnclosureLaws.{LiesIn_refl}
-use Rattle.chosen_sun.specs.Suns.{exact_sun_of, grid_sun_of}
-use Rattle.chosen_sun.proofs.SunLaws.{suns_are_sound}
+use Rattle.meeus_terms.specs.Suns.{exact_sun_of, grid_sun_of}
+use Rattle.meeus_terms.proofs.SunLaws.{suns_are_sound}
 use Rattle.altitude_test.specs.Verdicts.{IsAmong, ShowsSide}
 use Rattle.altitude_test.specs.Tolerance.{IsNarrowRange, IsSmallest, ShowsNear}
 use Rattle.altitude_test.proofs.Tolerance.{open_altitude_is_near, open_meridian_is_near}

@@ -3,7 +3,7 @@ use Rattle.std.proofs.Common.{◌≡◌, refl, subst, arith}
 use Rattle.std.proofs.lemmas.Int.{ints}
 use Rattle.std.specs.Prelude.{ℕ, ◌≤◌, ℤ, unsigned_abs}
 use Rattle.fixed_interval.specs.Grid.{Ends, Range}
-use Rattle.chosen_sun.specs.Suns.{grid_sun_of}
+use Rattle.meeus_terms.specs.Suns.{grid_sun_of}
 use Rattle.solar_terms.specs.Sun.{SunTerms}
 use Rattle.altitude_test.specs.Values.{Box, grid_altitude_value}
 use Rattle.sun_verdict.specs.Request.{IsAsked, IsWithin}

@@ -1,8 +1,8 @@
 -- The line of a request with its verdict.
 use Rattle.std.specs.Prelude.{ℕ, decimal, List, [], ◌++◌, codes}
 use Rattle.std.specs.Fmt.{signed_decimal}
-use Rattle.sun_choice.specs.declared.choice.SunChoice.{SunChoice}
-use Rattle.sun_choice.specs.declared.choice.SunChoice.TheVariants.{Usno, Meeus}
+use Rattle.method_table.specs.declared.sun.SunChoice.{SunChoice}
+use Rattle.method_table.specs.declared.sun.SunChoice.TheVariants.{Usno, Meeus}
 use Rattle.sun_verdict.specs.Decimals.{decimal_text}
 use Rattle.sun_verdict.specs.Verdict.{verdict_of, word_of}
 use Rattle.sun_verdict.specs.declared.request.Question.{Question}

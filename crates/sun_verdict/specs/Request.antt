@@ -1,8 +1,8 @@
 -- The words of `sun MINUTE LON LAT WHAT [meeus]`: which words are right, and what they ask.
 use Rattle.std.specs.Prelude.{ℕ, ◌==◌, ◌≤◌, if◌then◌else◌, List, [], ◌∷◌, slice_index, codes, bytes_eq, ℤ, pos, neg_ℤ, ◌≤ℤ◌, Option, Some, None, option_map}
-use Rattle.sun_choice.specs.Choice.{sun_word}
-use Rattle.sun_choice.specs.declared.choice.SunChoice.{SunChoice}
-use Rattle.sun_choice.specs.declared.choice.SunChoice.TheVariants.{Usno, Meeus}
+use Rattle.method_table.specs.Sun.{sun_word}
+use Rattle.method_table.specs.declared.sun.SunChoice.{SunChoice}
+use Rattle.method_table.specs.declared.sun.SunChoice.TheVariants.{Usno, Meeus}
 use Rattle.digit_text.specs.Digits.{digits_in}
 use Rattle.digit_text.specs.Sign.{is_negative, with_sign, without_sign}
 use Rattle.sun_verdict.specs.Decimals.{millionths_in, at_most}

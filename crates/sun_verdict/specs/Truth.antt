@@ -6,7 +6,7 @@ use Rattle.fixed_interval.specs.Grid.{enclosure_of_range}
 use Rattle.solar_terms.specs.SunLaws.{SunSource}
 use Rattle.altitude_test.specs.Conditions.{Spot, IsAbove, IsBelow, IsWithin, altitude_at, meridian_at}
 use Rattle.asr_test.specs.AsrLaws.{asr_at}
-use Rattle.chosen_sun.specs.Suns.{exact_sun_of}
+use Rattle.meeus_terms.specs.Suns.{exact_sun_of}
 use Rattle.sun_verdict.specs.Verdict.{angle_of, verdict_of}
 use Rattle.sun_verdict.specs.declared.request.Question.{Question}
 use Rattle.sun_verdict.specs.declared.request.Question.TheVariants.{Altitude, Meridian, Shadow}

@@ -4,7 +4,7 @@ use Rattle.fixed_interval.specs.Grid.{Ends, Range}
 use Rattle.solar_terms.specs.Sun.{SunTerms}
 use Rattle.altitude_test.specs.Values.{Box, grid_altitude_value, grid_meridian_value}
 use Rattle.asr_test.specs.Asr.{grid_asr_value}
-use Rattle.chosen_sun.specs.Suns.{grid_sun_of}
+use Rattle.meeus_terms.specs.Suns.{grid_sun_of}
 use Rattle.sun_verdict.specs.declared.request.Question.{Question}
 use Rattle.sun_verdict.specs.declared.request.Question.TheVariants.{Altitude, Meridian, Shadow}
 use Rattle.sun_verdict.specs.declared.request.Request.{Request}

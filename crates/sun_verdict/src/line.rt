@@ -8,10 +8,10 @@ ghost use Rattle.sun_verdict.specs.Truth.{IsTrueOfSky};
 use crate::decimals::decimal_string;
 use crate::request::{Question, Request};
 use crate::verdict::{Verdict, verdict_on};
+use method_table::SunChoice;
 use outcome::{Stop, write_text};
 use source_sink::Sink;
 use std::alloc::{AllocError, Global};
-use sun_choice::SunChoice;
 
 #[tactic(auto, unfolding(crate::specs::Line::question_text))]
 fn question_string(alloc: Global, question: Question) -> Result<String, AllocError>

@@ -6,7 +6,7 @@ ghost use Rattle.sun_verdict.specs.Request.{minute_in, coordinate_in, angle_in, 
 
 use crate::decimals::{millionths, number, signed};
 use digit_text::split_sign;
-use sun_choice::{SunChoice, sun_word};
+use method_table::{SunChoice, sun_word};
 
 /// What is asked of the sun.
 #[derive(Clone, Copy, Debug, PartialEq, Eq)]

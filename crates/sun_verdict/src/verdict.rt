@@ -1,7 +1,7 @@
 // The verdict on one question at one place and one minute.
 ghost use Rattle.std.specs.Prelude.{◌≡◌, ◌≤◌, pos, ◌*ℤ◌, ◌≤ℤ◌};
 ghost use Rattle.fixed_interval.specs.Interval.{ends};
-ghost use Rattle.chosen_sun.specs.Suns.{grid_sun_of};
+ghost use Rattle.meeus_terms.specs.Suns.{grid_sun_of};
 ghost use Rattle.solar_terms.specs.Sun.{minutes_of};
 ghost use Rattle.trig_series.specs.Angle.{range_of};
 ghost use Rattle.altitude_test.specs.Values.{box_of};
@@ -11,10 +11,10 @@ ghost use Rattle.sun_verdict.specs.Verdict.{point, place_of, angle_of, value_at,
 use crate::request::{Question, Request};
 use altitude_test::{Place, altitude_value, meridian_value};
 use asr_test::asr_value;
-use chosen_sun::chosen_sun;
 use fixed_interval::Interval;
+use meeus_terms::chosen_sun;
+use method_table::SunChoice;
 use solar_terms::Minutes;
-use sun_choice::SunChoice;
 use trig_series::Angle;
 
 /// The side of zero on which a value lies.

@@ -1,7 +1,7 @@
 // What the owner of a deque does.
 use crate::handles::{Owner, Thief};
 use crate::job::{Case, Job};
-use crate::rule::{Both, Part, Puts, Takes};
+use crate::rule::{Both, Look, Part, Puts, Takes};
 use crossbeam_deque::Worker;
 use no_memory::NoMemory;
 use std::alloc::Global;
@@ -38,6 +38,14 @@ impl<C: Case> Owner<C> {
         ensures popped { MatchOption result ((owner_log self.new ≡ owner_log self.old) × ((owner_log self.old).parts ≡ all_parts → IsSettled (owner_log self.old))) (λ job. IsJob C.case job × (owner_log self.new ≡ log (owner_log self.old).parts (owner_log self.old).pushed ((owner_log self.old).taken ++ job ∷ []))) }
     {
         self.worker.pop_as::<Takes<C>>()
+    }
+
+    /// How many tasks stand in the deque at one moment.
+    pub fn len(&mut self) -> usize
+        ensures same { SameOwner self.old self.new }
+        ensures log { owner_log self.new ≡ owner_log self.old }
+    {
+        self.worker.len_as::<Look>()
     }
 
     /// A handle to steal by. It takes one part with it, and the record of what was pushed and taken.

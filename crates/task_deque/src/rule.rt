@@ -1,9 +1,9 @@
 // The rule that a deque and all its passes keep between any two steps, and what each step tells its pass.
-ghost use Rattle.std.specs.Prelude.{◌≡◌, ◌+◌, ◌-◌, [], ◌++◌, All};
+ghost use Rattle.std.specs.Prelude.{◌≡◌, ◌+◌, ◌-◌, [], ◌++◌, All, ⊤};
 ghost use Rattle.task_deque.specs.Rule.{Balanced, IsJob, IsSettled, all_parts, log};
 
 use crate::job::{Case, Job};
-use crossbeam_deque::protocol::{Join, Outcome, Protocol, Split};
+use crossbeam_deque::protocol::{Join, Lesson, Outcome, Protocol, Split};
 use std::collections::LinkedList;
 use std::marker::PhantomData;
 
@@ -53,6 +53,13 @@ pub(crate) struct Robs<C> {
 
 impl<C: Case> Outcome<Job, Log> for Robs<C> {
     ghost then = { λ v xs w. (w ≡ log v.parts v.pushed (v.taken ++ xs)) × All (IsJob C.case) xs };
+}
+
+/// A look, from which nothing is learnt.
+pub(crate) struct Look;
+
+impl Lesson<Job, Log> for Look {
+    ghost fact = { λ v items. ⊤ };
 }
 
 /// One part goes to a new pass, with all that was pushed and taken.

@@ -10,7 +10,7 @@ use Rattle.outcome.specs.declared.status.Status.{Status}
 use Rattle.outcome.specs.declared.status.Status.TheVariants.{Done, OrderRefused, NoMemory, IcalRefused}
 use Rattle.outcome.specs.declared.status.Status.TheVariants.{Open as StatusOpen}
 use Rattle.source_sink.specs.Outside.{Adds}
-use Rattle.sun_choice.specs.declared.choice.SunChoice.TheVariants.{Usno}
+use Rattle.method_table.specs.declared.sun.SunChoice.TheVariants.{Usno}
 use Rattle.digit_text.specs.Digits.{digits_in}
 use Rattle.sun_verdict.specs.Decimals.{millionths_in}
 use Rattle.sun_verdict.specs.Request.{angle_in, asked_of, coordinate_in, minute_in, question_in, request_in}

@@ -4,7 +4,7 @@ use Rattle.method_table.specs.declared.method.Asr.TheVariants.{Standard}
 use Rattle.method_table.specs.declared.method.Method.TheVariants.{Mwl}
 use Rattle.order_rule.specs.Asked.{Asked}
 use Rattle.ring_survey.specs.Polygons.{Position}
-use Rattle.sun_choice.specs.declared.choice.SunChoice.TheVariants.{Usno}
+use Rattle.method_table.specs.declared.sun.SunChoice.TheVariants.{Usno}
 use Rattle.year_table.specs.declared.zone.Zone.TheVariants.{Fixed}
 
 unfoldable pub first_order : List ℕ

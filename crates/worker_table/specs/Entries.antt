@@ -6,7 +6,7 @@ use Rattle.order_table.specs.Made.{rows_of}
 use Rattle.order_table.specs.Trees.{entries_of}
 use Rattle.order_table.specs.declared.day.Day.{Day}
 use Rattle.ring_survey.specs.Polygons.{Polygon}
-use Rattle.sun_choice.specs.declared.choice.SunChoice.{SunChoice}
+use Rattle.method_table.specs.declared.sun.SunChoice.{SunChoice}
 
 -- of a sky over a district, seven to a day
 abbrev pub entries_on : SunChoice → List Polygon → Cell → Day → List Entry

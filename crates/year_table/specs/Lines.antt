@@ -9,8 +9,8 @@ use Rattle.method_table.specs.declared.method.Method.{Method}
 use Rattle.method_table.specs.declared.problem.Problem.{Problem}
 use Rattle.method_table.specs.Method.{asr_word, method_word}
 use Rattle.method_table.specs.Row.{Row, column_word, row_of}
-use Rattle.sun_choice.specs.declared.choice.SunChoice.{SunChoice}
-use Rattle.sun_choice.specs.declared.choice.SunChoice.TheVariants.{Meeus, Usno}
+use Rattle.method_table.specs.declared.sun.SunChoice.{SunChoice}
+use Rattle.method_table.specs.declared.sun.SunChoice.TheVariants.{Meeus, Usno}
 use Rattle.year_table.specs.declared.zone.Zone.{Zone}
 use Rattle.year_table.specs.declared.zone.Zone.TheVariants.{Fixed, Rule}
 use Rattle.year_table.specs.Dates.{date_text}

@@ -5,10 +5,9 @@ ghost use Rattle.year_table.specs.Lines.{end_line, head_text, height_text, order
 
 use crate::entry::date_string;
 use crate::zone::Zone;
-use method_table::{Asr, Method, asr_word, method_word};
+use method_table::{Asr, Method, SunChoice, asr_word, method_word};
 use no_memory::NoMemory;
 use std::alloc::Global;
-use sun_choice::SunChoice;
 
 /// The first three lines of a table from `day` on. `positions` counts the district's; `height` is in
 /// metres, and is named where it is above 0, as the sun is where it is Meeus'.

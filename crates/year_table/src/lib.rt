@@ -12,6 +12,6 @@ mod zone;
 
 pub use entry::{date_text, day_line, entry_text, night_line, open_line};
 pub use head::{end_line, table_head};
+pub use method_table::{SunChoice, sun_word};
 pub use offset::day_offset;
-pub use sun_choice::{SunChoice, sun_word};
 pub use zone::{Rule, RuleFault, Zone, read_rule};

@@ -1,5 +1,5 @@
 use Rattle.method_table.specs.Row.{row_of}
-use Rattle.chosen_sun.specs.Suns.{grid_sun_of}
+use Rattle.meeus_terms.specs.Suns.{grid_sun_of}
 use Rattle.cell_judge.proofs.JudgeLemmas.{made_verdict}
 use Rattle.cell_judge.proofs.judge.verdict_for.Goals as goal
 

@@ -20,7 +20,7 @@ pub first_leaf_below-first_leaf-found-requires : goal.first_leaf_below-first_lea
 first_leaf_below-first_leaf-found-requires g t c κs within =
     let child = child_at (g.J.Judge.content c.args.judge.now) c.args.task _ c.loop-cell.cell-index _ c.requires.task c.loop-cell.invariant.children c.loop-cell-test.true in
     let fewer = child.1 in
-    (search (rules, fewer, c.decreases), (search (rules, within), child.0))
+    (search (rules, fewer, c.decreases), (search (rules, within), (search (rules, within), child.0)))
 
 pub first_leaf_below-returns-then-is_some : goal.first_leaf_below-returns-then-is_some
 first_leaf_below-returns-then-is_some g t c =

@@ -29,7 +29,7 @@ pub write_letters_below-write_letters-requires : goal.write_letters_below-write_
 write_letters_below-write_letters-requires g t c κs within =
     let child = child_at (g.J.Judge.content c.args.judge.now) c.args.task _ c.loop-cell.cell-index _ c.requires c.loop-cell.invariant.children c.loop-cell-test.true in
     let fewer = child.1 in
-    (search (rules, fewer, c.decreases), (search (rules, within), child.0))
+    (search (rules, fewer, c.decreases), (search (rules, within), (search (rules, within), child.0)))
 
 pub write_letters_below-loop-cell-preserved : goal.write_letters_below-loop-cell-preserved
 write_letters_below-loop-cell-preserved g t c = record {

@@ -44,7 +44,7 @@ walk_quarters-walk_judged-requires g t c κs within =
     let fewer = child.1 in
     let uncut = quarter_uncut (ordinal_of c.args.refuted) c.args.task _ c.loop-quarter.quarter-index _ c.requires.quartered c.loop-quarter.invariant.cells (omega (arith, c.loop-quarter-test.true, c.loop-quarter.invariant.four)) c.requires.uncut in
     let verdict = c.loop-quarter.invariant.verdicts c.loop-quarter.quarter-index _ (omega (arith, c.loop-quarter-test.true, c.loop-quarter.invariant.four)) in
-    (search (rules, fewer, c.decreases), (search (rules, within), (child.0, (c.loop-quarter.invariant.in_frame, (uncut, verdict.is)))))
+    (search (rules, fewer, c.decreases), (search (rules, within), (search (rules, within), (child.0, (c.loop-quarter.invariant.in_frame, (uncut, verdict.is))))))
 
 pub walk_quarters-returns-in-Err-clause-walks : goal.walk_quarters-returns-in-Err-clause-walks
 walk_quarters-returns-in-Err-clause-walks g t c =
@@ -67,7 +67,7 @@ pub walk_halves-walk-requires : goal.walk_halves-walk-requires
 walk_halves-walk-requires g t c κs within =
     let child = child_at (g.J.Judge.content c.args.judge.now) c.args.task _ c.loop-cell.cell-index _ c.requires.task c.requires.halves c.loop-cell-test.true in
     let fewer = child.1 in
-    (search (rules, fewer, c.decreases), (search (rules, within), (child.0, c.loop-cell.invariant.in_frame)))
+    (search (rules, fewer, c.decreases), (search (rules, within), (search (rules, within), (child.0, c.loop-cell.invariant.in_frame))))
 
 pub walk_halves-returns-in-Err-clause-walks : goal.walk_halves-returns-in-Err-clause-walks
 walk_halves-returns-in-Err-clause-walks g t c =

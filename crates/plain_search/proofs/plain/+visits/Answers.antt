@@ -2,7 +2,7 @@ use Rattle.std.proofs.Common.{◌≡◌, ◌<◌, ◌≤◌, false, rules, sym, 
 use Rattle.std.proofs.lemmas.Result.{on_ok_weaker}
 use Rattle.cell_split.specs.Verdicts.{is_split}
 use Rattle.plain_search.specs.Harvests.{ordinal_of}
-use Rattle.plain_search.proofs.Collecting.{collects-child, collects-leaf, collects-quarter, collects-quarters, collects-cut, collects-split}
+use Rattle.plain_search.proofs.Collecting.{collects-child, collects-leaf, collects-none, collects-quarter, collects-quarters, collects-cut, collects-split}
 use Rattle.plain_search.proofs.TreeFacts.{child_at, quarter_at}
 use Rattle.plain_search.proofs.plain.+visits.Goals as goal
 
@@ -29,7 +29,15 @@ visit_quarters-visit_judged-requires g t c κs within =
     let child = quarter_at (g.J.Judge.content c.args.judge.now) c.args.task _ c.loop-quarter.quarter-index _ c.requires.task c.loop-quarter.invariant.cells (omega (arith, c.loop-quarter-test.true, c.loop-quarter.invariant.four)) in
     let fewer = child.1 in
     let verdict = c.loop-quarter.invariant.verdicts c.loop-quarter.quarter-index _ (omega (arith, c.loop-quarter-test.true, c.loop-quarter.invariant.four)) in
-    (search (rules, fewer, c.decreases), (search (rules, within), (child.0, verdict.is)))
+    (search (rules, fewer, c.decreases), (search (rules, within), (search (rules, within), (child.0, verdict.is))))
+
+pub visit_quarters-loop-quarter-init : goal.visit_quarters-loop-quarter-init
+visit_quarters-loop-quarter-init g t c = record {
+  four = search rules;
+  cells = c.quarters_in_turn.ensures.cells;
+  verdicts = c.quarters_in_turn.ensures.verdicts;
+  searched = collects-none _ _ _;
+}
 
 pub visit_quarters-loop-quarter-preserved : goal.visit_quarters-loop-quarter-preserved
 visit_quarters-loop-quarter-preserved g t c = record {
@@ -47,7 +55,7 @@ pub visit_halves-visit-requires : goal.visit_halves-visit-requires
 visit_halves-visit-requires g t c κs within =
     let child = child_at (g.J.Judge.content c.args.judge.now) c.args.task _ c.loop-cell.cell-index _ c.requires.task c.requires.halves c.loop-cell-test.true in
     let fewer = child.1 in
-    (search (rules, fewer, c.decreases), (search (rules, within), child.0))
+    (search (rules, fewer, c.decreases), (search (rules, within), (search (rules, within), child.0)))
 
 pub visit_halves-loop-cell-preserved : goal.visit_halves-loop-cell-preserved
 visit_halves-loop-cell-preserved g t c = record {

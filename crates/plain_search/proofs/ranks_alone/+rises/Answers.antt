@@ -28,7 +28,7 @@ rise_quarters-rise_judged-requires g t c κs within =
     let child = quarter_at (g.J.Judge.content c.args.judge.now) c.args.task _ c.loop-quarter.quarter-index _ c.requires.task c.loop-quarter.invariant.cells (omega (arith, c.loop-quarter-test.true, c.loop-quarter.invariant.four)) in
     let fewer = child.1 in
     let verdict = c.loop-quarter.invariant.verdicts c.loop-quarter.quarter-index _ (omega (arith, c.loop-quarter-test.true, c.loop-quarter.invariant.four)) in
-    (search (rules, fewer, c.decreases), (search (rules, within), (child.0, verdict.is)))
+    (search (rules, fewer, c.decreases), (search (rules, within), (search (rules, within), (child.0, verdict.is))))
 
 pub rise_quarters-loop-quarter-preserved : goal.rise_quarters-loop-quarter-preserved
 rise_quarters-loop-quarter-preserved g t c = record {
@@ -46,7 +46,7 @@ pub rise_halves-rise-requires : goal.rise_halves-rise-requires
 rise_halves-rise-requires g t c κs within =
     let child = child_at (g.J.Judge.content c.args.judge.now) c.args.task _ c.loop-cell.cell-index _ c.requires.task c.requires.halves c.loop-cell-test.true in
     let fewer = child.1 in
-    (search (rules, fewer, c.decreases), (search (rules, within), child.0))
+    (search (rules, fewer, c.decreases), (search (rules, within), (search (rules, within), child.0)))
 
 pub rise_halves-loop-cell-preserved : goal.rise_halves-loop-cell-preserved
 rise_halves-loop-cell-preserved g t c = record {

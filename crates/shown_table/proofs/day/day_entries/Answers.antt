@@ -1,7 +1,7 @@
 use Rattle.std.proofs.Common.{Err, List, Ok, inl, inr}
 use Rattle.cell_split.specs.declared.cell.Cell.{Cell}
 use Rattle.ring_survey.specs.Polygons.{Polygon}
-use Rattle.sun_choice.specs.declared.choice.SunChoice.{SunChoice}
+use Rattle.method_table.specs.declared.sun.SunChoice.{SunChoice}
 use Rattle.order_table.specs.Made.{day_of}
 use Rattle.shown_table.specs.Came.{ShowsNightEntries}
 use Rattle.shown_table.specs.Shown.{night_shown}

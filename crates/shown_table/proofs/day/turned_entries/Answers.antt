@@ -3,7 +3,7 @@ use Rattle.std.specs.Prelude.{None}
 use Rattle.cell_split.specs.declared.cell.Cell.{Cell}
 use Rattle.ring_survey.specs.Faults.{first_fault}
 use Rattle.ring_survey.specs.Polygons.{Polygon}
-use Rattle.sun_choice.specs.declared.choice.SunChoice.{SunChoice}
+use Rattle.method_table.specs.declared.sun.SunChoice.{SunChoice}
 use Rattle.order_table.specs.Made.{day_of}
 use Rattle.shown_table.specs.Came.{ShowsEntries}
 use Rattle.shown_table.specs.Shown.{columns_shown}

@@ -5,7 +5,7 @@ use Rattle.method_table.specs.Row.{row_of}
 use Rattle.method_table.specs.declared.problem.Problem.{Problem}
 use Rattle.ring_survey.specs.Faults.{first_fault}
 use Rattle.ring_survey.specs.Polygons.{Polygon}
-use Rattle.sun_choice.specs.declared.choice.SunChoice.{SunChoice}
+use Rattle.method_table.specs.declared.sun.SunChoice.{SunChoice}
 use Rattle.order_table.specs.Trees.{night_columns}
 use Rattle.shown_table.specs.Came.{ShowsEntries}
 use Rattle.shown_table.specs.Shown.{entries_shown, sun_shown_at}

@@ -4,7 +4,7 @@ use Rattle.outcome.specs.Writing.{Writes}
 use Rattle.ring_survey.specs.Polygons.{Polygon}
 use Rattle.order_table.specs.Made.{day_of}
 use Rattle.order_table.specs.Table.{days_text}
-use Rattle.sun_choice.specs.declared.choice.SunChoice.{SunChoice}
+use Rattle.method_table.specs.declared.sun.SunChoice.{SunChoice}
 use Rattle.shown_table.specs.declared.bad.Shown.{Shown}
 use Rattle.shown_table.specs.declared.bad.Shown.TheVariants.{Bad, Whole}
 use Rattle.shown_table.specs.Came.{IfWhole, ShowsDays}

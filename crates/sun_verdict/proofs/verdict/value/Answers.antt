@@ -1,6 +1,6 @@
 use Rattle.std.proofs.Common.{FitsSigned, w64, arith}
 use Rattle.std.proofs.lemmas.Int.{to_z-of_z}
-use Rattle.chosen_sun.specs.Suns.{grid_sun_of}
+use Rattle.meeus_terms.specs.Suns.{grid_sun_of}
 use Rattle.sun_verdict.proofs.Digits.{fits_within}
 use Rattle.sun_verdict.proofs.VerdictLemmas.{altitude_is, asked_within}
 use Rattle.sun_verdict.proofs.verdict.value.Goals as goal

@@ -1,6 +1,6 @@
 use Rattle.std.proofs.Common.{ap, ◌∙◌, arith}
 use Rattle.std.proofs.lemmas.List.{length-map}
-use Rattle.chosen_sun.specs.Suns.{grid_sun_of}
+use Rattle.meeus_terms.specs.Suns.{grid_sun_of}
 use Rattle.method_table.specs.Row.{Row, row_of}
 use Rattle.cell_judge.specs.Skies.{verdict_on}
 use Rattle.cell_judge.proofs.JudgeLemmas.{read_row}

@@ -1,4 +1,4 @@
-use Rattle.chosen_sun.specs.Suns.{grid_sun_of}
+use Rattle.meeus_terms.specs.Suns.{grid_sun_of}
 use Rattle.method_table.specs.Row.{row_of}
 use Rattle.cell_judge.proofs.JudgeLemmas.{judged, judged_outside}
 use Rattle.cell_judge.proofs.sky.Sky.judge_for.Goals as goal

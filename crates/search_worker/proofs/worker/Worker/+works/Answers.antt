@@ -48,37 +48,37 @@ pub hand_on_quarter-keep-requires-clause-task : goal.hand_on_quarter-keep-requir
 hand_on_quarter-keep-requires-clause-task g t c =
     asked c.requires.case (g.met.J.Judge.lawful c.args.judge.now) c.requires.in_tree
 
-pub hand_on_quarters-quarters_in_turn-quarters-requires-clause-task : goal.hand_on_quarters-quarters_in_turn-quarters-requires-clause-task
-hand_on_quarters-quarters_in_turn-quarters-requires-clause-task g t c =
+pub hand_on_quarters-quarters_from_last-quarters-requires-clause-task : goal.hand_on_quarters-quarters_from_last-quarters-requires-clause-task
+hand_on_quarters-quarters_from_last-quarters-requires-clause-task g t c =
     rw c.requires.case (asked c.requires.case (g.met.J.Judge.lawful c.args.judge.now) c.requires.in_tree)
 
 pub hand_on_quarters-loop-i-init : goal.hand_on_quarters-loop-i-init
 hand_on_quarters-loop-i-init g t c =
-    let items = c.quarters_in_turn-quarters.result in
+    let items = c.quarters_from_last-quarters.result in
     let four : length items ≡ 4 = search rules in
     record {
-      same = same_itself c.args.bound.now c.args.self.now c.requires.worker;
+      same = c.has_enough.ensures.same;
       left = λ logs given hand splits owes.
-          owes-children g.C.Case.case _ given _ _ hand c.args.task splits (cells_of items) 4 c.requires.split c.quarters_in_turn-quarters.ensures.cells
-          (omega (arith, four, length-map items (λ (q : Quarter). q.cell))) owes;
+          owes-children g.C.Case.case _ given _ _ hand c.args.task splits (cells_of items) 4 c.requires.split c.quarters_from_last-quarters.ensures.cells
+          (omega (arith, four, length-map items (λ (q : Quarter). q.cell))) (c.has_enough.ensures.owes logs given _ owes);
     }
 
 pub hand_on_quarters-hand_on_quarter-requires : goal.hand_on_quarters-hand_on_quarter-requires
 hand_on_quarters-hand_on_quarter-requires g t c κs within =
     let case = g.C.Case.case in
-    let items = c.quarters_in_turn-quarters.result in
+    let items = c.quarters_from_last-quarters.result in
     let i = c.loop-i.i - 1 in
     let four : length items ≡ 4 = search rules in
     let inside : i < length items = omega (arith, four, c.loop-i-test.true, c.loop-i.auto.i) in
     let is = asked c.requires.case (g.met.J.Judge.lawful c.args.judge.now) c.requires.in_tree in
-    let child = quarter_in_tree case c.args.task items i c.index-quarters-i.result is c.requires.in_tree c.requires.split c.quarters_in_turn-quarters.ensures.cells inside in
+    let child = quarter_in_tree case c.args.task items i c.index-quarters-i.result is c.requires.in_tree c.requires.split c.quarters_from_last-quarters.ensures.cells inside in
     let fewer = child.1 in
-    let verdict = rw c.requires.case at (c.quarters_in_turn-quarters.ensures.verdicts i c.index-quarters-i.result inside).is in
-    (search (rules, fewer, c.decreases), (search (rules, within), (search (rules, within), (search (rules, within), (c.requires.case, (c.requires.count, (still_worker c.args.bound.now c.args.self.now c.loop-i.self c.requires.worker c.loop-i.invariant.same, (child.0, verdict))))))))
+    let verdict = rw c.requires.case at (c.quarters_from_last-quarters.ensures.verdicts i c.index-quarters-i.result inside).is in
+    (search (rules, fewer, c.decreases), (search (rules, within), (search (rules, within), (search (rules, within), (search (rules, within), (c.requires.case, (c.requires.count, (still_worker c.args.bound.now c.args.self.now c.loop-i.self c.requires.worker c.loop-i.invariant.same, (child.0, verdict)))))))))
 
 pub hand_on_quarters-loop-i-preserved : goal.hand_on_quarters-loop-i-preserved
 hand_on_quarters-loop-i-preserved g t c =
-    let items = c.quarters_in_turn-quarters.result in
+    let items = c.quarters_from_last-quarters.result in
     let four : length items ≡ 4 = search rules in
     let cell : Quarter → Cell = λ q. q.cell in
     record {
@@ -103,7 +103,7 @@ hand_on_halves-hand_on-requires g t c κs within =
     let is = asked c.requires.case (g.met.J.Judge.lawful c.args.judge.now) c.requires.in_tree in
     let child = child_in_tree case c.args.task c.args.halves.now i _ is c.requires.in_tree c.requires.split (rw c.requires.halves (IsPermutation-refl _)) inside in
     let fewer = child.1 in
-    (search (rules, fewer, c.decreases), (search (rules, within), (search (rules, within), (search (rules, within), (c.requires.case, (c.requires.count, (still_worker c.args.bound.now c.args.self.now c.loop-i.self c.requires.worker c.loop-i.invariant.same, record { in_tree = child.0; known = λ split. absurd (false≢true split) })))))))
+    (search (rules, fewer, c.decreases), (search (rules, within), (search (rules, within), (search (rules, within), (search (rules, within), (c.requires.case, (c.requires.count, (still_worker c.args.bound.now c.args.self.now c.loop-i.self c.requires.worker c.loop-i.invariant.same, record { in_tree = child.0; known = λ split. absurd (false≢true split) }))))))))
 
 pub hand_on_halves-loop-i-preserved : goal.hand_on_halves-loop-i-preserved
 hand_on_halves-loop-i-preserved g t c = record {

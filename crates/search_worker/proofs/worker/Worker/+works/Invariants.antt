@@ -28,8 +28,8 @@ decreases-hand_on g l = 6 * levels l.job.task.cell + 1
 -- the quarters before this one are left
 abbrev pub invariant-hand_on_quarters-loop-i : goal.invariant-hand_on_quarters-loop-i
 invariant-hand_on_quarters-loop-i g l = record {
-  same : IsSameWorker l.bound l.initial.self l.self;
-  left : HasLeft g.C.Case.case (g.S.Store.keeps g.C.Case.case.problems) l.initial.self l.self l.task (take l.i (cells_of l.quarters));
+  same : IsSameWorker l.bound l.fn.self l.self;
+  left : HasLeft g.C.Case.case (g.S.Store.keeps g.C.Case.case.problems) l.fn.self l.self l.task (take l.i (cells_of l.quarters));
 }
 
 -- the halves before this one are left
