@@ -3,6 +3,7 @@ ghost use Rattle.std.specs.Prelude.{pos, ◌≡◌, ◌*◌, ◌^◌, ◌≤◌,
 ghost use Rattle.fixed_interval.specs.Grid.{reach};
 ghost use Rattle.fixed_interval.specs.Interval.{ends};
 
+use crate::vectors::{expect_ends, expect_interval, expect_no_more, next_ends, number};
 use fixed_interval::Interval;
 use std::process::Abort;
 use std::str::SplitWhitespace;
@@ -68,11 +69,6 @@ const LIMIT: i128 = 2_361_183_241_434_822_606_848;
 
 const PRODUCT_LIMIT: u128 = 85_070_591_730_234_615_865_843_651_857_942_052_864;
 
-fn number(rt: &impl Abort, words: &mut SplitWhitespace<'_>) -> i128 {
-    let word = words.next().expect(rt, "a word");
-    word.parse::<i128>().ok().expect(rt, "a number")
-}
-
 fn interval(rt: &impl Abort, words: &mut SplitWhitespace<'_>) -> Interval {
     let lo = number(rt, words);
     let hi = number(rt, words);
@@ -80,15 +76,11 @@ fn interval(rt: &impl Abort, words: &mut SplitWhitespace<'_>) -> Interval {
     Interval::new(lo, hi)
 }
 
-fn expect_ends(rt: &impl Abort, words: &mut SplitWhitespace<'_>, lo: i128, hi: i128) {
-    assert_eq!(rt; number(rt, words), lo);
-    assert_eq!(rt; number(rt, words), hi);
-}
-
+/// The next words are the answer's ends, or a sign that there is none.
 fn expect(rt: &impl Abort, words: &mut SplitWhitespace<'_>, answer: Option<Interval>) {
     match answer {
         None => assert_eq!(rt; words.next(), Some("-")),
-        Some(a) => expect_ends(rt, words, a.lo, a.hi),
+        Some(a) => expect_interval(rt, words, a),
     }
 }
 
@@ -226,8 +218,8 @@ fn check_scaled(rt: &impl Abort, a: Interval, units: i64, words: &mut SplitWhite
     requires low { pos 0 ≤ℤ units }
     requires high { units ≤ℤ pos (2 ^ 45) }
 {
-    let (lo, hi) = a.scale_units(units);
-    expect_ends(rt, words, lo, hi);
+    let wanted = next_ends(rt, words);
+    expect_ends(rt, a.scale_units(units), wanted);
 }
 
 fn check_row(rt: &impl Abort, row: &str) {
@@ -242,12 +234,12 @@ fn check_row(rt: &impl Abort, row: &str) {
     check_pair(rt, a, b, n, &mut words);
     check_scaled(rt, a, factor, &mut words);
     expect(rt, &mut words, times_ratio(a, low, high, n));
-    assert!(rt; words.next().is_none());
+    expect_no_more(rt, &mut words);
 }
 
 #[test]
 fn each_call_gives_the_computed_ends(rt: HostRuntime) {
-    for row in ROWS {
+    for row in &ROWS {
         check_row(&rt, row);
     }
 }
