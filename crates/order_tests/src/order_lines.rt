@@ -2,6 +2,7 @@
 use order_reader::read_order;
 use order_text::{order_line, read_order_line};
 use std::alloc::{AllocError, Global};
+use std::process::Abort;
 use std::test::Fail;
 
 fn text_of(alloc: Global, line: &[u8]) -> Result<String, AllocError> {
@@ -71,20 +72,25 @@ const LINES: [(&str, &str); 7] = [
     ),
 ];
 
+/// A call made this line.
+fn expect_line(rt: &impl Abort, got: Result<String, AllocError>, line: &str) -> Result<(), Fail> {
+    let got = got?;
+    assert_eq!(rt; got.as_str(), line);
+    Ok(())
+}
+
 #[test]
 fn an_order_has_one_line(rt: HostRuntime) -> Result<(), Fail> {
-    for (text, line) in LINES {
-        let got = line_of(rt.alloc(), text)?;
-        assert_eq!(rt; got.as_str(), line);
+    for (text, line) in &LINES {
+        expect_line(&rt, line_of(rt.alloc(), text), line)?;
     }
     Ok(())
 }
 
 #[test]
 fn a_line_is_read_again_without_its_end(rt: HostRuntime) -> Result<(), Fail> {
-    for (_, line) in LINES {
-        let got = line_again(rt.alloc(), line.trim_end())?;
-        assert_eq!(rt; got.as_str(), line);
+    for (_, line) in &LINES {
+        expect_line(&rt, line_again(rt.alloc(), line.trim_end()), line)?;
     }
     Ok(())
 }
