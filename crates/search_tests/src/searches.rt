@@ -116,7 +116,7 @@ fn has_ranks_of_one_thread<J: Judge>(rt: &impl Abort, judge: &J, found: &[TopRan
     }
 }
 
-fn workers_find_ranks<R: Threads + Wait + Sync + Abort, J: Judge + Sync>(
+fn workers_find_ranks<R: Threads + Wait + Sync + Abort, J: Judge<Kept: Send> + Sync>(
     rt: &R,
     alloc: Global,
     judge: &J,

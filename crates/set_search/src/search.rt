@@ -71,7 +71,7 @@ fn entries_of_judges<J: Judge>(
 }
 
 /// The entries of 1 to 64 judges over one root, by 1 to 16 workers at the same time: each entry is that of its whole tree.
-fn search_judges<R: Threads + Wait + Sync, J: Judge + Sync, G: Gate + Sync>(
+fn search_judges<R: Threads + Wait + Sync, J: Judge<Kept: Send> + Sync, G: Gate + Sync>(
     rt: &R,
     alloc: Global,
     judges: &[J],

@@ -17,7 +17,7 @@ use std::thread::Threads;
 
 /// Searches each problem's tree, by 1 to 16 workers at the same time. Each worker calls the gate
 /// before each task that it judges. One worker searches on this thread.
-pub fn search<R: Threads + Wait + Sync, J: Judge + Sync, G: Gate + Sync>(
+pub fn search<R: Threads + Wait + Sync, J: Judge<Kept: Send> + Sync, G: Gate + Sync>(
     rt: &R,
     alloc: Global,
     judge: &J,
@@ -40,7 +40,7 @@ pub fn search<R: Threads + Wait + Sync, J: Judge + Sync, G: Gate + Sync>(
 
 /// Searches as `search` does, and keeps no leaf: for each problem the greatest refuted rank, and the
 /// greatest open rank above it.
-pub fn search_ranks<R: Threads + Wait + Sync, J: Judge + Sync, G: Gate + Sync>(
+pub fn search_ranks<R: Threads + Wait + Sync, J: Judge<Kept: Send> + Sync, G: Gate + Sync>(
     rt: &R,
     alloc: Global,
     judge: &J,

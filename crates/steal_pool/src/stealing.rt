@@ -31,7 +31,7 @@ pub(crate) fn search_in<
     C: Case + Send + Sync,
     S: Store + Send,
     R: Threads + Wait + Sync,
-    J: Judge + Sync,
+    J: Judge<Kept: Send> + Sync,
     G: Gate + Sync,
 >(rt: &R, alloc: Global, judge: &J, workers: u32, gate: &G) -> Result<Found<S>, NoMemory>
     requires case { J.content judge.now ≡ C.case }

@@ -19,7 +19,7 @@ pub(crate) fn run_crew<
     C: Case + Send + Sync,
     S: Store + Send,
     R: Threads + Wait + Sync,
-    J: Judge + Sync,
+    J: Judge<Kept: Send> + Sync,
     G: Gate + Sync,
 >(rt: &R, judge: &J, gate: &G, bound: &Bound<Refutes<C>>, members: &mut Vec<Member<C, S>>)
     requires case { J.content judge.now ≡ C.case }
@@ -38,7 +38,7 @@ fn run<
     C: Case + Send + Sync,
     S: Store + Send,
     R: Threads + Wait + Sync,
-    J: Judge + Sync,
+    J: Judge<Kept: Send> + Sync,
     G: Gate + Sync,
 >(rt: &R, judge: &J, gate: &G, bound: &Bound<Refutes<C>>, members: &mut [Member<C, S>])
     requires case { J.content judge.now ≡ C.case }
