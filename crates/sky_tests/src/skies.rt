@@ -2,10 +2,9 @@
 ghost use Rattle.std.specs.Prelude.{neg_ℤ, pos, ◌≤◌, ◌≤ℤ◌};
 ghost use Rattle.cell_judge.specs.Limits.{AreInLimits};
 
-use cell_judge::Sky;
+use cell_judge::{MeeusSky, Sky};
 use cell_split::{Cell, Judge, Task, Verdict, root_at, within};
 use district_set::SetSky;
-use meeus_sky::MeeusSky;
 use method_table::{Asr, Method, Problem, SunChoice, problems};
 use night_portion::{Few, night_problems, repeated};
 use region::{District, RegionFault};
