@@ -1,10 +1,8 @@
-// Tests of the top call on coverings, right and hostile ones, and on streams that fail, over sources and sinks in memory.
+// Tests of the top call on coverings, right and hostile ones, over sources and sinks in memory.
 // Contract: none; the crate has tests alone.
 #![tactic(auto)]
 
 #[cfg(test)]
 mod coverings;
-#[cfg(test)]
-mod failing;
 #[cfg(test)]
 mod hostile;

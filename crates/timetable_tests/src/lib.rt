@@ -1,9 +1,7 @@
-// Tests of the top call's examples and of its commands `order` and `sun`, over sources and sinks in memory.
+// Tests of the top call's commands `order` and `sun`, over sources and sinks in memory.
 // Contract: none; the crate has tests alone.
 #![tactic(auto)]
 
-#[cfg(test)]
-mod examples;
 #[cfg(test)]
 mod orders;
 #[cfg(test)]
